@@ -1,5 +1,5 @@
 -- What a kernel in memory tells: by its rows, and names that are the same for all.
-use Rattle.std.specs.Prelude.{ℕ, List, nat_eq, Option, Some, None, Result, Ok, Err, bytes_eq, codes, if◌then◌else◌}
+use Rattle.std.specs.Prelude.{ℕ, Bool, true, false, List, nat_eq, Option, Some, None, Result, Ok, Err, bytes_eq, codes, if◌then◌else◌}
 use Rattle.std.specs.List.{find}
 use Rattle.pr_base.specs.declared.errno.Errno.{Errno}
 use Rattle.pr_base.specs.declared.errno.Errno.TheVariants.{EINVAL, ENOENT}
@@ -33,6 +33,18 @@ kind_told None = Err ENOENT
 abbrev pub text_told : Option Row → Result (List ℕ) Errno
 text_told (Some row) = text_in row.stands
 text_told None = Err ENOENT
+
+-- nothing but links of the process directory stands there
+abbrev pub is_steady : Stands → Bool
+is_steady stands.Dir = true
+is_steady stands.File = true
+is_steady (stands.Link text) = true
+is_steady stands.Jump = false
+is_steady (stands.Fails e) = true
+
+abbrev pub steady_told : Option Row → Bool
+steady_told (Some row) = is_steady row.stands
+steady_told None = true
 
 -- descriptor 4 is a pipe
 abbrev pub base_told : ℕ → Option (List ℕ)

@@ -1,11 +1,15 @@
--- The names that the kernel in memory tells are texts.
-use Rattle.std.proofs.Common.{◌≢◌, ℕ, Bool, true, false, [], ◌∷◌, Some, None, refl, arith}
+-- The names that the kernel in memory tells are texts, and steady paths lead to no link of the process directory.
+use Rattle.std.proofs.Common.{◌≡◌, ◌≢◌, ℕ, Bool, true, false, [], ◌∷◌, Option, Some, None, Ok, refl, arith}
 use Rattle.std.specs.Prelude.{codes, nat_eq, IfSome, if◌then◌else◌}
 use Rattle.std.specs.List.{All}
 use Rattle.std.proofs.lemmas.List.Elements.{All-nil, All-cons}
 use Rattle.pr_base.specs.Paths.{IsName}
 use Rattle.pr_base.specs.Texts.{IsText}
-use Rattle.canon_tests.specs.Told.{base_told}
+use Rattle.pr_base.specs.declared.peeks.PeekKind.TheVariants.{Jump}
+use Rattle.canon_tests.specs.Told.{base_told, is_steady, kind_of, kind_told, steady_told}
+use Rattle.canon_tests.specs.declared.told.Row.{Row}
+use Rattle.canon_tests.specs.declared.told.Stands.{Stands}
+use Rattle.canon_tests.specs.declared.told.Stands.TheVariants as stands
 
 abbrev beside : ℕ → ℕ → Type 0
 beside x b = b ≢ x
@@ -49,3 +53,14 @@ base_text fd = by (nat_eq fd 4)
     by : (b : Bool) → IfSome (if b then None else Some (codes "/data")) IsText
     by true = tt
     by false = data_text
+
+no_jump_stands : (x : Stands) → is_steady x ≡ true → kind_of x ≢ Ok Jump
+no_jump_stands stands.Dir steady h = absurd cc
+no_jump_stands stands.File steady h = absurd cc
+no_jump_stands (stands.Link text) steady h = absurd cc
+no_jump_stands stands.Jump steady h = absurd cc
+no_jump_stands (stands.Fails e) steady h = absurd cc
+
+pub no_jump_told : (o : Option Row) → steady_told o ≡ true → kind_told o ≢ Ok Jump
+no_jump_told (Some row) steady h = no_jump_stands row.stands steady h
+no_jump_told None steady h = absurd cc

@@ -2,7 +2,7 @@
 ghost use Rattle.std.specs.Prelude.{◌≡◌, IfOk, OnOk};
 ghost use Rattle.std.specs.Option.{option_copied};
 ghost use Rattle.pr_base.specs.Peeks.{IsPeeked};
-ghost use Rattle.canon_tests.specs.Told.{row_at, kind_of, text_in};
+ghost use Rattle.canon_tests.specs.Told.{is_steady, row_at, kind_of, text_in};
 
 use pr_base::{BaseKind, Bytes, Errno, NoMemory, PeekFault, PeekKind, Peeks};
 use std::alloc::Global;
@@ -126,14 +126,24 @@ fn text_in(alloc: Global, stands: &Stands) -> Result<Bytes, PeekFault>
     }
 }
 
+/// Whether a walk that comes to what stands at a path is steady.
+fn is_steady(stands: &Stands) -> bool
+    ensures { result ≡ is_steady stands.now }
+{
+    match stands {
+        Stands::Dir | Stands::File | Stands::Link(_) | Stands::Fails(_) => true,
+        Stands::Jump => false,
+    }
+}
+
 impl Peeks for Told {
     ghost use Rattle.std.specs.Prelude.{Err};
     ghost use Rattle.pr_base.specs.declared.errno.Errno.TheVariants.{EACCES};
     ghost use Rattle.pr_base.specs.declared.peeks.BaseKind.TheVariants.{Other};
-    ghost use Rattle.canon_tests.specs.Told.{base_told, cwd_told, exe_told, kind_told, text_told};
-    ghost use Rattle.canon_tests.specs.ToldNames.{base_text, data_text, n_text};
+    ghost use Rattle.canon_tests.specs.Told.{base_told, cwd_told, exe_told, kind_told, steady_told, text_told};
+    ghost use Rattle.canon_tests.specs.ToldNames.{base_text, data_text, n_text, no_jump_told};
 
-    ghost peeked = { λ told. record { kind = λ host. kind_told (row_at told.rows.items host); link_text = λ host. text_told (row_at told.rows.items host); head = λ host n. Err EACCES; base_kind = λ pid fd. Other; base_name = λ pid fd. base_told fd; cwd_name = λ pid. cwd_told; exe_name = λ pid. exe_told } };
+    ghost peeked = { λ told. record { kind = λ host. kind_told (row_at told.rows.items host); link_text = λ host. text_told (row_at told.rows.items host); head = λ host n. Err EACCES; steady = λ host. steady_told (row_at told.rows.items host); base_kind = λ pid fd. Other; base_name = λ pid fd. base_told fd; cwd_name = λ pid. cwd_told; exe_name = λ pid. exe_told } };
 
     ghost Kept = { Unit {0} };
 
@@ -159,6 +169,14 @@ impl Peeks for Told {
         Err(PeekFault::Err(Errno::EACCES))
     }
 
+    fn steady(&mut self, host: &[u8]) -> Result<bool, NoMemory> {
+        self.count()?;
+        match self.row(host) {
+            Some(row) => Ok(is_steady(&row.stands)),
+            None => Ok(true),
+        }
+    }
+
     fn base_kind(&mut self, _pid: u32, _fd: u32) -> BaseKind {
         BaseKind::Other
     }
@@ -182,4 +200,6 @@ impl Peeks for Told {
     }
 
     ghost names_are_texts = { λ told. record { base = λ pid fd. base_text fd; cwd = λ pid. data_text; exe = λ pid. n_text } };
+
+    ghost steady_is_no_jump = { λ told host. no_jump_told (row_at told.rows.items host) };
 }

@@ -13,7 +13,9 @@ use std::test::Fail;
 pub fn listed(alloc: Global, listing: &[u8], elf: &[u8]) -> Result<(Tree, User), Fail>
     ensures { IfOk result (λ read. IsReady read.0 read.1 plain) }
 {
-    let (tree, user) = read(alloc, listing, Some(elf))?;
+    let Ok((tree, user)) = read(alloc, listing, Some(elf)) else {
+        return Err(Fail::from("no listing"));
+    };
     trees_are_kept(&tree);
     Ok((tree, user))
 }

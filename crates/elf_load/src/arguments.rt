@@ -4,12 +4,7 @@ ghost use Rattle.std.specs.Option.{SomeIff};
 ghost use Rattle.elf_load.specs.FirstStack.{exceeds_arguments, text_bytes, texts_size};
 
 use rv_mem::below::pr_base::Texts;
-
-/// The most arguments, and the most environment texts.
-const MOST_TEXTS: usize = 4096;
-
-/// The most bytes of all of them, with an end for each.
-const MOST_BYTES: usize = 131_072;
+use rv_mem::below::pr_base::limits::{MOST_BYTES, MOST_TEXTS};
 
 /// The text at a place that is there.
 pub(crate) fn text_at(texts: &Texts, k: usize) -> &[u8]

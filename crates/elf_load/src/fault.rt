@@ -3,7 +3,7 @@
 use rv_mem::below::pr_base::NoMemory;
 
 /// Why a program isn't loaded.
-#[derive(Clone, Copy, Debug, PartialEq, Eq)]
+#[derive(Clone, Copy)]
 pub enum LoadFault {
     /// The process or all processes together would have too many pages.
     TooManyPages,

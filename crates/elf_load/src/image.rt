@@ -13,14 +13,11 @@ use crate::segments::{exceed_limits, program_break, put_all};
 use crate::stack::FirstStack;
 use elf_read::{Plan, Segment};
 use rv_mem::below::pr_base::Texts;
-use rv_mem::{MapFault, Regs, Room, Space};
+use rv_mem::{ALL_PAGES, MapFault, Regs, Room, Space};
 use std::alloc::Global;
 
 /// The register of the stack pointer.
 const SP: usize = 2;
-
-/// How many pages there may be in a memory, by their addresses.
-const ALL_PAGES: u32 = 67_108_863;
 
 /// What a program starts with: its memory, its registers, and the address at which its data end.
 #[derive(Drop)]

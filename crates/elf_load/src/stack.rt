@@ -46,7 +46,7 @@ const AT_SECURE: u64 = 23;
 const AT_RANDOM: u64 = 25;
 
 /// An entry of the auxiliary vector.
-#[derive(Clone, Copy, Debug, PartialEq, Eq)]
+#[derive(Clone, Copy)]
 pub struct Pair {
     pub kind: u64,
     pub value: u64,

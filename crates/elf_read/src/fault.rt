@@ -3,7 +3,7 @@
 /// The first rule that a file breaks. Each rule is tested over all program headers before the next one,
 /// in the order of the variants. `header` is the index of the first program header that breaks the
 /// rule, counted among all program headers.
-#[derive(Clone, Copy, Debug, PartialEq, Eq)]
+#[derive(Clone, Copy)]
 pub enum ElfFault {
     /// The file is shorter than an ELF header.
     Short,

@@ -12,7 +12,7 @@ pub(crate) const ET_EXEC: u16 = 2;
 pub(crate) const ET_DYN: u16 = 3;
 
 /// What the rules need of the ELF header. The fields are those of the format.
-#[derive(Clone, Copy, Debug, PartialEq, Eq)]
+#[derive(Clone, Copy)]
 pub struct FileHeader {
     pub e_type: u16,
     pub e_machine: u16,
@@ -23,7 +23,7 @@ pub struct FileHeader {
 }
 
 /// What the rules need of a program header. The fields are those of the format.
-#[derive(Clone, Copy, Debug, Default, PartialEq, Eq)]
+#[derive(Clone, Copy, Default)]
 pub struct ProgramHeader {
     pub p_type: u32,
     pub p_flags: u32,

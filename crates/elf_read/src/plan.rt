@@ -7,7 +7,7 @@ use crate::headers::{ENTRY_SIZE, FileHeader, ProgramHeader};
 use crate::table::MOST_HEADERS;
 
 /// A part of the file that is loaded, and where.
-#[derive(Clone, Copy, Debug, Default, PartialEq, Eq)]
+#[derive(Clone, Copy, Default)]
 pub struct Segment {
     /// The address of its first byte in memory, as moved.
     pub at: u64,
@@ -23,7 +23,7 @@ pub struct Segment {
 
 /// The segments of an accepted file in the order of their program headers, and what the first stack
 /// tells of the file. The addresses of a shared object are moved up by 0x10_0000_0000.
-#[derive(Clone, Copy, Debug, PartialEq, Eq)]
+#[derive(Clone, Copy)]
 pub struct Plan {
     /// The address of the first instruction, as moved, modulo 2^64. No rule tests it.
     pub entry: u64,

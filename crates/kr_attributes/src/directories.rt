@@ -7,9 +7,9 @@ ghost use Rattle.kr_seen.specs.kr_model.Known.{known};
 ghost use Rattle.kr_seen.specs.kr_model.Operation.{looked_up};
 ghost use Rattle.kr_seen.specs.kr_model.Reply.{Replying, refuse};
 ghost use Rattle.kr_seen.specs.kr_model.Seen.{LooksUp};
-ghost use Rattle.kr_seen.specs.kr_model.State.{image_layout, inode_of as host_inode, process};
+ghost use Rattle.kr_seen.specs.kr_model.State.{image_layout, inode_of as host_inode};
 ghost use Rattle.kr_seen.specs.kr_ops.Meaning.{meaning};
-ghost use Rattle.kr_seen.specs.kr_ops.Sound.{IsServed, IsSound};
+ghost use Rattle.kr_seen.specs.kr_ops.Sound.{IsServed, IsSound, IsSoundFor};
 ghost use Rattle.kr_attributes.specs.Entering.{Enters};
 ghost use Rattle.kr_seen.specs.Performing.{PerformsAt, seen_found};
 ghost use Rattle.kr_seen.specs.Resolved.{IsFoundIn};
@@ -21,8 +21,7 @@ use kr_seen::{is_directory_host, is_searched, number, refused};
 
 /// chdir(2): ENOTDIR, EACCES without search.
 pub fn chdir<T: Copy, const M: u8>(state: &mut State<T, M>, pid: u32, target: &Target<T>) -> Outcome
-    requires sound { IsSound state.old }
-    requires lives { IsSome (process pid (meaning state.old)) }
+    requires caller { IsSoundFor pid state.old }
     requires found { IsFoundIn state.old.tree target.now }
     ensures performs { (n : T → ℕ) (table : List Row) → PerformsAt target.now pid (λ k. looked_up (seen_found n table pid state.old target.now LooksUp) (λ l. chdir_row k l)) state.old state.new result }
     ensures served { IsServed state.new }
@@ -35,8 +34,7 @@ pub fn chdir<T: Copy, const M: u8>(state: &mut State<T, M>, pid: u32, target: &T
 
 /// fchdir(2): EBADF of a descriptor that isn't open, ENOTDIR, EACCES without search.
 pub fn fchdir<T: Copy, const M: u8>(state: &mut State<T, M>, pid: u32, fd: i32) -> Outcome
-    requires sound { IsSound state.old }
-    requires lives { IsSome (process pid (meaning state.old)) }
+    requires { IsSoundFor pid state.old }
     ensures performs { Performs pid (λ k. fchdir_row k fd) state.old state.new result }
     ensures served { IsServed state.new }
 {
@@ -82,8 +80,7 @@ fn may_enter<T: Copy, const M: u8>(state: &State<T, M>, host: Host) -> Result<()
 
 /// Makes a place the working directory of a process: ENOTDIR, EACCES without search.
 fn enter<T: Copy, const M: u8>(state: &mut State<T, M>, pid: u32, place: Place<T>) -> Outcome
-    requires sound { IsSound state.old }
-    requires lives { IsSome (process pid (meaning state.old)) }
+    requires caller { IsSoundFor pid state.old }
     requires there { IsSome (inode state.old.tree (host_inode place.host)) }
     ensures performs { Enters pid place state.old state.new result }
     ensures served { IsServed state.new }

@@ -1,5 +1,5 @@
 //! What calls ask of descriptors and of the caller.
-ghost use Rattle.std.specs.Prelude.{◌≡◌, ℕ, IfNone, IfSome, IsSome};
+ghost use Rattle.std.specs.Prelude.{◌≡◌, ℕ, IfNone, IfSome};
 ghost use Rattle.std.specs.Option.{option_map};
 ghost use Rattle.kr_seen.specs.pr_base.declared.errno.Errno.TheVariants.{EBADF};
 ghost use Rattle.kr_seen.specs.kr_view.Component.{is_process_directory};
@@ -7,15 +7,12 @@ ghost use Rattle.kr_seen.specs.kr_files.declared.opened.Opened.{Opened};
 ghost use Rattle.kr_seen.specs.kr_model.Asking.{descriptor_number, is_working_directory, or_badf};
 ghost use Rattle.kr_seen.specs.kr_model.Known.{known};
 ghost use Rattle.kr_seen.specs.kr_model.Reply.{Replying, refuse};
-ghost use Rattle.kr_seen.specs.kr_model.State.{image_layout, process};
+ghost use Rattle.kr_seen.specs.kr_model.State.{image_layout};
 ghost use Rattle.kr_seen.specs.kr_ops.Meaning.{meaning};
-ghost use Rattle.kr_seen.specs.kr_ops.Sound.{IsSound};
+ghost use Rattle.kr_seen.specs.kr_ops.Sound.{IsSound, IsSoundFor};
 ghost use Rattle.kr_attributes.specs.Found.{IsOpenAs};
 
-use kr_seen::below::{Host, Place, ProcAt, State, What};
-
-/// AT_FDCWD, the working directory in place of a descriptor.
-const AT_FDCWD: i32 = -100;
+use kr_seen::below::{AT_FDCWD, Host, Place, ProcAt, State, What};
 
 /// What is open under a descriptor: its number, the object of the host where it has a place, and its kind.
 #[derive(Clone, Copy)]
@@ -74,8 +71,7 @@ pub(crate) fn is_working_directory(fd: i32) -> bool
 
 /// The object that is a process's working directory.
 pub(crate) fn working_directory<T: Copy, const M: u8>(state: &State<T, M>, pid: u32) -> Host
-    requires sound { IsSound state.now }
-    requires lives { IsSome (process pid (meaning state.now)) }
+    requires { IsSoundFor pid state.now }
     ensures { result ≡ (known image_layout pid (meaning state.now)).caller.cwd }
 {
     match state.index_of(pid) {

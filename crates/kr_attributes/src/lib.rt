@@ -2,8 +2,8 @@
 //!
 //! What is proved, with the clause or the law that carries it:
 //!
-//! Calls that ask or set what files are, and where a process stands, carried out on a state of kr_ops over any view: faccessat, fchmod, fchmodat,
-//! fchown, fchownat, fstat, newfstatat, readlinkat, chdir, fchdir, chroot and getcwd.
+//! Calls that ask or set what files are, and where a process stands, carried out on a state of kr_ops over any view. A module for each subject has
+//! a function for each call, with a path or with a descriptor.
 //!
 //! Each answers the outcome of its row and leaves what the row's reply makes of the state (`Performs`, and `PerformsAt` with a path); what the
 //! code keeps beside a state's meaning stays kept (`served`). readlinkat tells the texts of the process directory's links too, and getcwd the

@@ -1,16 +1,15 @@
 //! readlinkat(2): the text of a link.
-ghost use Rattle.std.specs.Prelude.{◌≢◌, ◌≡◌, ℕ, List, Option, IfOk, IsSome};
+ghost use Rattle.std.specs.Prelude.{◌≢◌, ◌≡◌, ℕ, List, Option, IfOk};
 ghost use Rattle.kr_seen.specs.kr_tree.declared.place.Host.TheVariants.{Node, Proc};
 ghost use Rattle.kr_seen.specs.kr_model.AttributeRows.{readlinkat_row, tell_text};
 ghost use Rattle.kr_seen.specs.kr_model.Known.{known};
-ghost use Rattle.kr_seen.specs.kr_model.Lawful.{IsLawful};
 ghost use Rattle.kr_seen.specs.kr_model.Operation.{link_read};
 ghost use Rattle.kr_seen.specs.kr_model.ProcessDirectory.{link_text};
-ghost use Rattle.kr_seen.specs.kr_model.State.{image_layout, process};
+ghost use Rattle.kr_seen.specs.kr_model.State.{image_layout};
 ghost use Rattle.kr_seen.specs.kr_model.Walks.{text_at};
 ghost use Rattle.kr_seen.specs.kr_model.declared.outcome.Outcome.TheVariants.{NoMemory as WantOfMemory};
 ghost use Rattle.kr_seen.specs.kr_ops.Meaning.{meaning};
-ghost use Rattle.kr_seen.specs.kr_ops.Sound.{IsServed, IsSound};
+ghost use Rattle.kr_seen.specs.kr_ops.Sound.{IsLawfulFor, IsLawfulIn, IsServed, IsSoundFor};
 ghost use Rattle.kr_seen.specs.Numbered.{state_numbered};
 ghost use Rattle.kr_seen.specs.Performing.{PerformsAt};
 ghost use Rattle.kr_seen.specs.PerformedRows.{Performs};
@@ -30,6 +29,17 @@ pub(crate) enum TextFault {
     NoMemory,
 }
 
+impl From<NoMemory> for TextFault {
+    ghost use Rattle.std.specs.Prelude.{◌≡◌};
+    ghost use Rattle.kr_attributes.specs.declared.links.TextFault.TheVariants.{NoMemory as Wanting};
+
+    ghost from_gives = { λ error fault. fault ≡ Wanting };
+
+    fn from(_error: NoMemory) -> TextFault {
+        TextFault::NoMemory
+    }
+}
+
 /// readlinkat(2): EINVAL of what is no link, ENOENT of a link of the process directory to what has no name, EFAULT; as many bytes as
 /// fit, and their number.
 pub fn readlinkat<P: Places, const M: u8>(
@@ -40,9 +50,7 @@ pub fn readlinkat<P: Places, const M: u8>(
     buf: u64,
     size: i32,
 ) -> Outcome
-    requires lawful { IsLawful P.number (P.mounts places.now) (meaning state.old) }
-    requires served { IsServed state.old }
-    requires lives { IsSome (process pid (meaning state.old)) }
+    requires { IsLawfulFor P.number (P.mounts places.now) pid state.old }
     ensures performs { PerformsAt target.now pid (λ k. link_read (seen_link P.number (P.mounts places.now) pid state.old target.now) (λ l text. readlinkat_row k l text buf size)) state.old state.new result }
     ensures served { result ≢ WantOfMemory → IsServed state.new }
 {
@@ -65,8 +73,7 @@ fn tell_text<T: Copy, const M: u8>(
     text: &[u8],
     size: u32,
 ) -> Outcome
-    requires sound { IsSound state.old }
-    requires lives { IsSome (process pid (meaning state.old)) }
+    requires { IsSoundFor pid state.old }
     ensures performs { Performs pid (λ k. tell_text buf size text.now) state.old state.new result }
     ensures served { result ≢ WantOfMemory → IsServed state.new }
 {
@@ -81,8 +88,7 @@ fn text<P: Places, const M: u8>(
     pid: u32,
     host: Host,
 ) -> Result<Bytes, TextFault>
-    requires lawful { IsLawful P.number (P.mounts places.now) (meaning state.now) }
-    requires served { IsServed state.now }
+    requires { IsLawfulIn P.number (P.mounts places.now) state.now }
     ensures { AnswersText (known image_layout pid (meaning state.now)) host (text_at (P.mounts places.now) pid (state_numbered P.number (meaning state.now)) host) result }
 {
     match host {
@@ -91,15 +97,12 @@ fn text<P: Places, const M: u8>(
     }
 }
 
-/// The same of a link of the tree.
+/// The text of a link of the tree.
 fn node_text<T: Copy, const M: u8>(state: &State<T, M>, ino: Ino) -> Result<Bytes, TextFault>
     ensures { (pid : ℕ) (text : Option (List ℕ)) → AnswersText (known image_layout pid (meaning state.now)) (Node ino) text result }
 {
     match state.tree.link_text(ino) {
-        Some(text) => match Bytes::copy(*state.living.allocator(), text) {
-            Ok(text) => Ok(text),
-            Err(NoMemory) => Err(TextFault::NoMemory),
-        },
+        Some(text) => Ok(Bytes::copy(*state.living.allocator(), text)?),
         None => match state.tree.kind(ino) {
             Some(_) => Err(TextFault::Refused(Errno::EINVAL)),
             None => Err(TextFault::Refused(Errno::ENOENT)),
@@ -107,24 +110,22 @@ fn node_text<T: Copy, const M: u8>(state: &State<T, M>, ino: Ino) -> Result<Byte
     }
 }
 
-/// The same of a link of the process directory.
+/// The text of a link of the process directory.
 fn process_text<P: Places, const M: u8>(
     places: &P,
     state: &State<P::Mount, M>,
     pid: u32,
     at: ProcAt,
 ) -> Result<Bytes, TextFault>
-    requires lawful { IsLawful P.number (P.mounts places.now) (meaning state.now) }
-    requires served { IsServed state.now }
+    requires { IsLawfulIn P.number (P.mounts places.now) state.now }
     ensures { (i : ℕ) → AnswersText (known image_layout pid (meaning state.now)) (Proc i at) (link_text (P.mounts places.now) (state_numbered P.number (meaning state.now)) pid at) result }
 {
     if is_process_directory(at) {
         return Err(TextFault::Refused(Errno::EINVAL));
     }
-    match shown_text(places, state, pid, at) {
-        Ok(Some(text)) => Ok(text),
-        Ok(None) => Err(TextFault::Refused(Errno::ENOENT)),
-        Err(NoMemory) => Err(TextFault::NoMemory),
+    match shown_text(places, state, pid, at)? {
+        Some(text) => Ok(text),
+        None => Err(TextFault::Refused(Errno::ENOENT)),
     }
 }
 
@@ -135,8 +136,7 @@ pub(crate) fn shown_text<P: Places, const M: u8>(
     pid: u32,
     at: ProcAt,
 ) -> Result<Option<Bytes>, NoMemory>
-    requires lawful { IsLawful P.number (P.mounts places.now) (meaning state.now) }
-    requires served { IsServed state.now }
+    requires { IsLawfulIn P.number (P.mounts places.now) state.now }
     ensures { IfOk result (λ text. text ≡ link_text (P.mounts places.now) (state_numbered P.number (meaning state.now)) pid at) }
 {
     shows_the_directory::<P::Mount>();

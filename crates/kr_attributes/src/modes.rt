@@ -10,11 +10,8 @@ ghost use Rattle.kr_seen.specs.PerformedRows.{Performs};
 ghost use Rattle.kr_seen.specs.kr_tree.declared.place.Host.TheVariants.{Node};
 
 use crate::found::open_object;
-use kr_seen::below::{Errno, Host, Ino, Outcome, State, Target, User};
+use kr_seen::below::{Errno, Host, Ino, MODES, Outcome, State, Target, User};
 use kr_seen::{is_processes_host, number, refused};
-
-/// How many modes there are, of twelve bits.
-const MODES: u32 = 4096;
 
 /// fchmodat(2): EPERM of what another owns, of the process directory and of what is in it. The low twelve bits are kept.
 pub fn fchmodat<T: Copy, const M: u8>(
@@ -64,7 +61,7 @@ fn chmod<T: Copy, const M: u8>(state: &mut State<T, M>, host: Host, mode: u32) -
     }
 }
 
-/// The same of an inode.
+/// Gives an inode another mode.
 fn chmod_node<T: Copy, const M: u8>(state: &mut State<T, M>, ino: Ino, mode: u32) -> Outcome
     requires { IsSound state.old }
     ensures performs { (pid : ℕ) → Performs pid (λ k. chmod_host k mode (Node ino)) state.old state.new result }

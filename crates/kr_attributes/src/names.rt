@@ -1,15 +1,12 @@
 //! getcwd(2): the name of the working directory.
-ghost use Rattle.std.specs.Prelude.{◌≢◌, [], length, IsSome};
+ghost use Rattle.std.specs.Prelude.{◌≢◌, [], length};
 ghost use Rattle.kr_seen.specs.pr_base.declared.errno.Errno.TheVariants.{EFAULT};
 ghost use Rattle.kr_seen.specs.rv_mem.Actions.{write_if_allowed};
 ghost use Rattle.kr_seen.specs.kr_model.DirectoryRows.{getcwd_row, tell_directory};
-ghost use Rattle.kr_seen.specs.kr_model.Lawful.{IsLawful};
 ghost use Rattle.kr_seen.specs.kr_model.Operation.{directory_named};
 ghost use Rattle.kr_seen.specs.kr_model.Reply.{done, refuse};
-ghost use Rattle.kr_seen.specs.kr_model.State.{process};
 ghost use Rattle.kr_seen.specs.kr_model.declared.outcome.Outcome.TheVariants.{NoMemory as WantOfMemory};
-ghost use Rattle.kr_seen.specs.kr_ops.Meaning.{meaning};
-ghost use Rattle.kr_seen.specs.kr_ops.Sound.{IsServed, IsSound};
+ghost use Rattle.kr_seen.specs.kr_ops.Sound.{IsLawfulFor, IsServed, IsSoundFor};
 ghost use Rattle.kr_seen.specs.PerformedRows.{Performs};
 ghost use Rattle.kr_attributes.specs.Named.{seen_directory};
 
@@ -27,9 +24,7 @@ pub fn getcwd<P: Places, const M: u8>(
     buf: u64,
     size: u64,
 ) -> Outcome
-    requires lawful { IsLawful P.number (P.mounts places.now) (meaning state.old) }
-    requires served { IsServed state.old }
-    requires lives { IsSome (process pid (meaning state.old)) }
+    requires { IsLawfulFor P.number (P.mounts places.now) pid state.old }
     ensures performs { Performs pid (λ k. directory_named (seen_directory P.number (P.mounts places.now) pid state.old) (λ name. getcwd_row name buf size)) state.old state.new result }
     ensures served { result ≢ WantOfMemory → IsServed state.new }
 {
@@ -49,8 +44,7 @@ fn tell_directory<T: Copy, const M: u8>(
     size: u64,
     mut name: Bytes,
 ) -> Outcome
-    requires sound { IsSound state.old }
-    requires lives { IsSome (process pid (meaning state.old)) }
+    requires { IsSoundFor pid state.old }
     ensures performs { Performs pid (λ k. tell_directory buf size name) state.old state.new result }
     ensures served { result ≢ WantOfMemory → IsServed state.new }
 {
@@ -70,8 +64,7 @@ fn tell_name<T: Copy, const M: u8>(
     buf: u64,
     bytes: &[u8],
 ) -> Outcome
-    requires sound { IsSound state.old }
-    requires lives { IsSome (process pid (meaning state.old)) }
+    requires { IsSoundFor pid state.old }
     ensures performs { Performs pid (λ k. write_if_allowed buf bytes.now (refuse EFAULT) (done (length bytes.now) [])) state.old state.new result }
     ensures served { result ≢ WantOfMemory → IsServed state.new }
 {

@@ -1,14 +1,12 @@
 //! Calls on the owner of a file.
-ghost use Rattle.std.specs.Prelude.{◌≡◌, ℕ, [], List, IsSome};
+ghost use Rattle.std.specs.Prelude.{◌≡◌, ℕ, [], List};
 ghost use Rattle.kr_seen.specs.kr_tree.declared.place.Host.TheVariants.{Node};
 ghost use Rattle.kr_seen.specs.kr_view.View.{Row};
 ghost use Rattle.kr_seen.specs.kr_model.AttributeRows.{chown_by, chown_host, fchown_row, fchownat_here, fchownat_row, may_give, or_old};
 ghost use Rattle.kr_seen.specs.kr_model.Change.{Change};
 ghost use Rattle.kr_seen.specs.kr_model.Operation.{looked_up};
 ghost use Rattle.kr_seen.specs.kr_model.Seen.{LooksUp};
-ghost use Rattle.kr_seen.specs.kr_model.State.{process};
-ghost use Rattle.kr_seen.specs.kr_ops.Meaning.{meaning};
-ghost use Rattle.kr_seen.specs.kr_ops.Sound.{IsServed, IsSound};
+ghost use Rattle.kr_seen.specs.kr_ops.Sound.{IsServed, IsSound, IsSoundFor};
 ghost use Rattle.kr_seen.specs.Performing.{PerformsAt, seen_found};
 ghost use Rattle.kr_seen.specs.PerformedRows.{Performs};
 ghost use Rattle.kr_attributes.specs.Ruled.{ruled};
@@ -21,7 +19,7 @@ use kr_seen::{number, refused};
 const UNCHANGED: u32 = u32::MAX;
 
 /// What chown(2) comes to.
-#[derive(Clone, Copy, Debug, PartialEq, Eq)]
+#[derive(Clone, Copy)]
 pub(crate) enum Ruling {
     /// Both numbers are left, and nothing is tested.
     Left,
@@ -56,8 +54,7 @@ pub fn fchownat_here<T: Copy, const M: u8>(
     uid: u32,
     gid: u32,
 ) -> Outcome
-    requires sound { IsSound state.old }
-    requires lives { IsSome (process pid (meaning state.old)) }
+    requires { IsSoundFor pid state.old }
     ensures performs { Performs pid (λ k. fchownat_here k dirfd uid gid) state.old state.new result }
     ensures served { IsServed state.new }
 {
@@ -102,7 +99,7 @@ fn chown<T: Copy, const M: u8>(state: &mut State<T, M>, host: Host, uid: u32, gi
     }
 }
 
-/// The same of an inode.
+/// Gives an inode another owner.
 fn chown_node<T: Copy, const M: u8>(
     state: &mut State<T, M>,
     ino: Ino,
@@ -130,7 +127,7 @@ fn chown_node<T: Copy, const M: u8>(
     }
 }
 
-/// The same of what is the user's and keeps no owner.
+/// Gives what is the user's and keeps no owner another one, which changes nothing.
 fn chown_own<T: Copy, const M: u8>(state: &State<T, M>, uid: u32, gid: u32) -> Outcome
     requires { IsSound state.now }
     ensures { (pid : ℕ) → Performs pid (λ k. chown_by k.user k.user uid gid []) state.now state.now result }

@@ -86,7 +86,7 @@ fn allows<T: Copy, const M: u8>(state: &State<T, M>, host: Host, right: Right) -
     }
 }
 
-/// The same of what is in the process directory: its directories have the mode 0555, and its links 0777.
+/// Whether the user has a right to what is in the process directory: its directories have the mode 0555, and its links 0777.
 fn process_allows(at: ProcAt, right: Right) -> bool
     ensures { result ≡ process_allows at right }
 {

@@ -1,5 +1,5 @@
 //! fstat(2) and newfstatat(2).
-ghost use Rattle.std.specs.Prelude.{◌≡◌, ◌≢◌, ◌+◌, ◌<◌, ◌^◌, ℕ, length, List, IsSome};
+ghost use Rattle.std.specs.Prelude.{◌≡◌, ◌≢◌, ◌+◌, ◌<◌, ◌^◌, ℕ, length, List};
 ghost use Rattle.std.specs.Option.{option_map, option_map_or};
 ghost use Rattle.kr_seen.specs.pr_base.declared.errno.Errno.TheVariants.{ENOENT, EBADF};
 ghost use Rattle.kr_seen.specs.kr_tree.Tree.{body_is, inode, takes_names};
@@ -10,10 +10,10 @@ ghost use Rattle.kr_seen.specs.kr_model.Known.{Known, known};
 ghost use Rattle.kr_seen.specs.kr_model.Operation.{looked_up};
 ghost use Rattle.kr_seen.specs.kr_model.Reply.{refuse};
 ghost use Rattle.kr_seen.specs.kr_model.Seen.{LooksUp};
-ghost use Rattle.kr_seen.specs.kr_model.State.{image_layout, process};
+ghost use Rattle.kr_seen.specs.kr_model.State.{image_layout};
 ghost use Rattle.kr_seen.specs.kr_model.declared.outcome.Outcome.TheVariants.{NoMemory as WantOfMemory};
 ghost use Rattle.kr_seen.specs.kr_ops.Meaning.{meaning};
-ghost use Rattle.kr_seen.specs.kr_ops.Sound.{IsServed, IsSound};
+ghost use Rattle.kr_seen.specs.kr_ops.Sound.{IsServed, IsSound, IsSoundFor};
 ghost use Rattle.kr_seen.specs.Performing.{PerformsAt, seen_found};
 ghost use Rattle.kr_seen.specs.PerformedRows.{Performs};
 ghost use Rattle.kr_attributes.specs.Facts.{bits_by, links_by, size_by};
@@ -56,8 +56,7 @@ pub fn newfstatat<T: Copy, const M: u8>(
     target: &Target<T>,
     buf: u64,
 ) -> Outcome
-    requires sound { IsSound state.old }
-    requires lives { IsSome (process pid (meaning state.old)) }
+    requires { IsSoundFor pid state.old }
     ensures performs { (n : T → ℕ) (table : List Row) → PerformsAt target.now pid (λ k. looked_up (seen_found n table pid state.old target.now LooksUp) (λ l. newfstatat_row k l buf)) state.old state.new result }
     ensures served { result ≢ WantOfMemory → IsServed state.new }
 {
@@ -74,8 +73,7 @@ pub fn newfstatat_here<T: Copy, const M: u8>(
     dirfd: i32,
     buf: u64,
 ) -> Outcome
-    requires sound { IsSound state.old }
-    requires lives { IsSome (process pid (meaning state.old)) }
+    requires { IsSoundFor pid state.old }
     ensures performs { Performs pid (λ k. newfstatat_here k dirfd buf) state.old state.new result }
     ensures served { result ≢ WantOfMemory → IsServed state.new }
 {
@@ -89,8 +87,7 @@ pub fn newfstatat_here<T: Copy, const M: u8>(
 
 /// fstat(2): EBADF of a descriptor that isn't open, EFAULT.
 pub fn fstat<T: Copy, const M: u8>(state: &mut State<T, M>, pid: u32, fd: i32, buf: u64) -> Outcome
-    requires sound { IsSound state.old }
-    requires lives { IsSome (process pid (meaning state.old)) }
+    requires { IsSoundFor pid state.old }
     ensures performs { Performs pid (λ k. fstat_row k fd buf) state.old state.new result }
     ensures served { result ≢ WantOfMemory → IsServed state.new }
 {
@@ -110,8 +107,7 @@ fn tell_object<T: Copy, const M: u8>(
     buf: u64,
     host: Host,
 ) -> Outcome
-    requires sound { IsSound state.old }
-    requires lives { IsSome (process pid (meaning state.old)) }
+    requires { IsSoundFor pid state.old }
     ensures performs { Performs pid (λ k. stat_host k buf host) state.old state.new result }
     ensures served { result ≢ WantOfMemory → IsServed state.new }
 {
@@ -128,8 +124,7 @@ fn tell_unplaced<T: Copy, const M: u8>(
     buf: u64,
     what: What,
 ) -> Outcome
-    requires sound { IsSound state.old }
-    requires lives { IsSome (process pid (meaning state.old)) }
+    requires { IsSoundFor pid state.old }
     ensures performs { Performs pid (λ k. stat_unplaced k buf what) state.old state.new result }
     ensures served { result ≢ WantOfMemory → IsServed state.new }
 {
@@ -141,8 +136,7 @@ fn tell_unplaced<T: Copy, const M: u8>(
 
 /// Writes the structure `stat`: EFAULT.
 fn tell<T: Copy, const M: u8>(state: &mut State<T, M>, pid: u32, buf: u64, stat: &Stat) -> Outcome
-    requires sound { IsSound state.old }
-    requires lives { IsSome (process pid (meaning state.old)) }
+    requires { IsSoundFor pid state.old }
     ensures performs { Performs pid (λ k. tell_stat buf stat.now) state.old state.new result }
     ensures served { result ≢ WantOfMemory → IsServed state.new }
 {

@@ -1,7 +1,9 @@
--- The table of the calls, one line for each request: what its call is told and along which paths, which kinds of changes it can make, whether
--- it writes into its caller's memory, whether it can wait, by which word it can end its caller, and who answers it beneath a tracer.
-use Rattle.std.specs.Prelude.{ℕ, ◌*◌, Bool, true, false, ℤ, pos, unsigned_abs, List, [], ◌∷◌, Option, Some, None}
+-- The table of the calls, one line for each request: the number of its call, what it is told and along which paths, which kinds of changes it
+-- can make, whether it writes into its caller's memory, whether it can wait, by which word it can end its caller, and who answers it beneath a
+-- tracer.
+use Rattle.std.specs.Prelude.{ℕ, ◌*◌, ◌==◌, Bool, true, false, ℤ, pos, unsigned_abs, List, [], ◌∷◌, Option, Some, None}
 use Rattle.std.specs.Int.{int_rem_euclid}
+use Rattle.std.specs.List.{list_any}
 use Rattle.rv_mem.specs.pr_base.declared.path.WalkMode.{WalkMode}
 use Rattle.rv_mem.specs.pr_base.declared.path.WalkMode.TheVariants as mode
 use Rattle.kr_calls.specs.declared.request.Request.{Request}
@@ -112,26 +114,27 @@ pub data Teller : Type 0 where
 -- ---- lines
 
 pub record Line : Type 0 where
+  pub number : ℕ
   pub told : Told
   pub does : Doing
   pub teller : Teller
 
-abbrev pub plain : Doing → Line
-plain does = record { told = ToldNothing; does = does; teller = ByKernel }
+abbrev pub plain : ℕ → Doing → Line
+plain number does = record { number = number; told = ToldNothing; does = does; teller = ByKernel }
 
 -- nothing that shows
-abbrev pub quiet : Line
-quiet = plain (making [])
+abbrev pub quiet : ℕ → Line
+quiet number = plain number (making [])
 
-abbrev pub faked : Doing → Line
-faked does = record { told = ToldNothing; does = does; teller = ByTracer }
+abbrev pub faked : ℕ → Doing → Line
+faked number does = record { number = number; told = ToldNothing; does = does; teller = ByTracer }
 
-abbrev pub along : Told → Doing → Line
-along told does = record { told = told; does = does; teller = ByKernel }
+abbrev pub along : ℕ → Told → Doing → Line
+along number told does = record { number = number; told = told; does = does; teller = ByKernel }
 
 -- a text of the kernel's, which a tracer tells in guest terms
-abbrev pub texted : Told → Line
-texted told = record { told = told; does = telling []; teller = WithText }
+abbrev pub texted : ℕ → Told → Line
+texted number told = record { number = number; told = told; does = telling []; teller = WithText }
 
 abbrev pub text_in : ℕ → ℤ → List ℕ → TextAt
 text_in register dirfd text = record { dirfd = dirfd; text = text; register = register }
@@ -146,72 +149,109 @@ here text = text_in 10 working_directory text
 
 abbrev pub line : Request → Line
 -- descriptors
-line (call.Dup fd) = plain copying
-line (call.Dup3 old new flags) = plain copying
-line (call.Fcntl fd cmd arg) = plain controlling
-line (call.Ioctl fd) = quiet
-line (call.Close fd) = plain (making (ClosesDescriptor ∷ []))
-line (call.Pipe2 buf flags) = plain (telling (MakesPipe ∷ []))
-line (call.Lseek fd off whence) = plain (making (Seeks ∷ []))
+line (call.Dup fd) = plain 23 copying
+line (call.Dup3 old new flags) = plain 24 copying
+line (call.Fcntl fd cmd arg) = plain 25 controlling
+line (call.Ioctl fd) = quiet 29
+line (call.Close fd) = plain 57 (making (ClosesDescriptor ∷ []))
+line (call.Pipe2 buf flags) = plain 59 (telling (MakesPipe ∷ []))
+line (call.Lseek fd off whence) = plain 62 (making (Seeks ∷ []))
 -- files
-line (call.Read fd buf n) = plain reading
-line (call.Write fd buf n) = plain writing
-line (call.Readv fd list count) = plain reading
-line (call.Writev fd list count) = plain writing
-line (call.Ftruncate fd len) = plain (making (SetsSize ∷ []))
-line (call.Openat dirfd path flags permissions) = along (OpensAt flags (at dirfd path)) opening
+line (call.Read fd buf n) = plain 63 reading
+line (call.Write fd buf n) = plain 64 writing
+line (call.Readv fd list count) = plain 65 reading
+line (call.Writev fd list count) = plain 66 writing
+line (call.Ftruncate fd len) = plain 46 (making (SetsSize ∷ []))
+line (call.Openat dirfd path flags permissions) = along 56 (OpensAt flags (at dirfd path)) opening
 -- names
-line (call.Mkdirat dirfd path permissions) = along (MakesAt (at dirfd path)) (making (AddsNode ∷ []))
-line (call.Unlinkat dirfd path flags) = along (TakesAt (at dirfd path)) (making (RemovesName ∷ []))
-line (call.Symlinkat text dirfd path) = along (MakesAt (text_in 12 dirfd path)) (making (AddsNode ∷ []))
-line (call.Linkat olddir old newdir new flags) = along (LinksTwo (link_mode flags) (at olddir old) (text_in 13 newdir new)) (making (LinksNode ∷ []))
-line (call.Renameat2 olddir old newdir new) = along (MovesTwo (at olddir old) (text_in 13 newdir new)) (making (MovesName ∷ []))
+line (call.Mkdirat dirfd path permissions) = along 34 (MakesAt (at dirfd path)) (making (AddsNode ∷ []))
+line (call.Unlinkat dirfd path flags) = along 35 (TakesAt (at dirfd path)) (making (RemovesName ∷ []))
+line (call.Symlinkat text dirfd path) = along 36 (MakesAt (text_in 12 dirfd path)) (making (AddsNode ∷ []))
+line (call.Linkat olddir old newdir new flags) = along 37 (LinksTwo (link_mode flags) (at olddir old) (text_in 13 newdir new)) (making (LinksNode ∷ []))
+line (call.Renameat2 olddir old newdir new) = along 276 (MovesTwo (at olddir old) (text_in 13 newdir new)) (making (MovesName ∷ []))
 -- attributes
-line (call.Faccessat dirfd path rights) = along (LooksAt mode.Look (at dirfd path)) (making [])
-line (call.Fchmod fd permissions) = plain (making (SetsMode ∷ []))
-line (call.Fchmodat dirfd path permissions) = along (LooksAt mode.Look (at dirfd path)) (making (SetsMode ∷ []))
-line (call.Fchown fd uid gid) = plain (making (SetsOwner ∷ []))
-line (call.Fchownat dirfd path uid gid flags) = along (LooksAt (look_mode flags) (at dirfd path)) (making (SetsOwner ∷ []))
-line (call.Fstat fd buf) = plain (telling [])
-line (call.Newfstatat dirfd path buf flags) = along (LooksAt (look_mode flags) (at dirfd path)) (telling [])
-line (call.Readlinkat dirfd path buf size) = texted (ReadsLinkAt (at dirfd path))
+line (call.Faccessat dirfd path rights) = along 48 (LooksAt mode.Look (at dirfd path)) (making [])
+line (call.Fchmod fd permissions) = plain 52 (making (SetsMode ∷ []))
+line (call.Fchmodat dirfd path permissions) = along 53 (LooksAt mode.Look (at dirfd path)) (making (SetsMode ∷ []))
+line (call.Fchown fd uid gid) = plain 55 (making (SetsOwner ∷ []))
+line (call.Fchownat dirfd path uid gid flags) = along 54 (LooksAt (look_mode flags) (at dirfd path)) (making (SetsOwner ∷ []))
+line (call.Fstat fd buf) = plain 80 (telling [])
+line (call.Newfstatat dirfd path buf flags) = along 79 (LooksAt (look_mode flags) (at dirfd path)) (telling [])
+line (call.Readlinkat dirfd path buf size) = texted 78 (ReadsLinkAt (at dirfd path))
 -- directories
-line (call.Getdents64 fd buf n) = plain (telling (Seeks ∷ []))
-line (call.Chdir path) = along (LooksAt mode.Look (here path)) (making (EntersPath ∷ []))
-line (call.Fchdir fd) = plain (making (EntersOpen ∷ []))
-line (call.Chroot path) = along (LooksAt mode.Look (here path)) (making [])
-line (call.Getcwd buf size) = texted NamesHere
+line (call.Getdents64 fd buf n) = plain 61 (telling (Seeks ∷ []))
+line (call.Chdir path) = along 49 (LooksAt mode.Look (here path)) (making (EntersPath ∷ []))
+line (call.Fchdir fd) = plain 50 (making (EntersOpen ∷ []))
+line (call.Chroot path) = along 51 (LooksAt mode.Look (here path)) (making [])
+line (call.Getcwd buf size) = texted 17 NamesHere
 -- memory
-line (call.Brk a) = plain (making (ChangesPages ∷ SetsBreak ∷ []))
-line (call.Munmap a len) = plain changing_pages
-line (call.Mmap a len prot flags) = plain changing_pages
-line (call.Mprotect a len prot) = plain changing_pages
+line (call.Brk a) = plain 214 (making (ChangesPages ∷ SetsBreak ∷ []))
+line (call.Munmap a len) = plain 215 changing_pages
+line (call.Mmap a len prot flags) = plain 222 changing_pages
+line (call.Mprotect a len prot) = plain 226 changing_pages
 -- processes
-line (call.Exit code) = plain (exiting code)
-line (call.ExitGroup code) = plain (exiting code)
-line call.SetTidAddress = quiet
-line call.RtSigaction = quiet
-line call.RtSigprocmask = quiet
-line (call.Uname buf) = plain (telling [])
-line (call.Umask m) = plain (making (SetsUmask ∷ []))
-line call.Getpid = quiet
-line call.Getppid = quiet
-line call.Gettid = quiet
-line (call.Clone flags sp ctid) = plain (making (Forks ∷ []))
-line (call.Wait4 child status options usage) = plain reaping
-line (call.Execve path args env) = along (LooksAt mode.Look (here path)) (making [])
+line (call.Exit code) = plain 93 (exiting code)
+line (call.ExitGroup code) = plain 94 (exiting code)
+line call.SetTidAddress = quiet 96
+line call.RtSigaction = quiet 134
+line call.RtSigprocmask = quiet 135
+line (call.Uname buf) = plain 160 (telling [])
+line (call.Umask m) = plain 166 (making (SetsUmask ∷ []))
+line call.Getpid = quiet 172
+line call.Getppid = quiet 173
+line call.Gettid = quiet 178
+line (call.Clone flags sp ctid) = plain 220 (making (Forks ∷ []))
+line (call.Wait4 child status options usage) = plain 260 reaping
+line (call.Execve path args env) = along 221 (LooksAt mode.Look (here path)) (making [])
 -- identity
-line (call.Setregid rgid egid) = faked (making [])
-line (call.Setgid gid) = faked (making [])
-line (call.Setreuid ruid euid) = faked (making [])
-line (call.Setuid uid) = faked (making [])
-line (call.Setresuid ruid euid suid) = faked (making [])
-line (call.Getresuid ruid euid suid) = faked (telling [])
-line (call.Setresgid rgid egid sgid) = faked (making [])
-line (call.Getresgid rgid egid sgid) = faked (telling [])
-line (call.Getgroups size list) = faked (telling [])
-line (call.Setgroups size list) = faked (making [])
-line call.Getuid = faked (making [])
-line call.Geteuid = faked (making [])
-line call.Getgid = faked (making [])
-line call.Getegid = faked (making [])
+line (call.Setregid rgid egid) = faked 143 (making [])
+line (call.Setgid gid) = faked 144 (making [])
+line (call.Setreuid ruid euid) = faked 145 (making [])
+line (call.Setuid uid) = faked 146 (making [])
+line (call.Setresuid ruid euid suid) = faked 147 (making [])
+line (call.Getresuid ruid euid suid) = faked 148 (telling [])
+line (call.Setresgid rgid egid sgid) = faked 149 (making [])
+line (call.Getresgid rgid egid sgid) = faked 150 (telling [])
+line (call.Getgroups size list) = faked 158 (telling [])
+line (call.Setgroups size list) = faked 159 (making [])
+line call.Getuid = faked 174 (making [])
+line call.Geteuid = faked 175 (making [])
+line call.Getgid = faked 176 (making [])
+line call.Getegid = faked 177 (making [])
+
+-- ---- the same request of other paths
+
+-- another text in place of the first path
+abbrev pub with_first : List ℕ → Request → Request
+with_first text (call.Mkdirat dirfd path permissions) = call.Mkdirat dirfd text permissions
+with_first text (call.Unlinkat dirfd path flags) = call.Unlinkat dirfd text flags
+with_first text (call.Symlinkat shown dirfd path) = call.Symlinkat shown dirfd text
+with_first text (call.Linkat olddir old newdir new flags) = call.Linkat olddir text newdir new flags
+with_first text (call.Renameat2 olddir old newdir new) = call.Renameat2 olddir text newdir new
+with_first text (call.Faccessat dirfd path rights) = call.Faccessat dirfd text rights
+with_first text (call.Chdir path) = call.Chdir text
+with_first text (call.Chroot path) = call.Chroot text
+with_first text (call.Execve path args env) = call.Execve text args env
+with_first text (call.Fchmodat dirfd path permissions) = call.Fchmodat dirfd text permissions
+with_first text (call.Fchownat dirfd path uid gid flags) = call.Fchownat dirfd text uid gid flags
+with_first text (call.Openat dirfd path flags permissions) = call.Openat dirfd text flags permissions
+with_first text (call.Readlinkat dirfd path buf size) = call.Readlinkat dirfd text buf size
+with_first text (call.Newfstatat dirfd path buf flags) = call.Newfstatat dirfd text buf flags
+with_first text r = r
+
+-- another text in place of the second one
+abbrev pub with_second : List ℕ → Request → Request
+with_second text (call.Linkat olddir old newdir new flags) = call.Linkat olddir old newdir text flags
+with_second text (call.Renameat2 olddir old newdir new) = call.Renameat2 olddir old newdir text
+with_second text r = r
+
+-- ---- which numbers are those of calls with a path
+
+-- mkdirat, unlinkat, symlinkat, linkat; faccessat, chdir, chroot; fchmodat, fchownat, openat; readlinkat, newfstatat; execve,
+-- renameat2
+abbrev pub path_calls : List ℕ
+path_calls = 34 ∷ 35 ∷ 36 ∷ 37 ∷ 48 ∷ 49 ∷ 51 ∷ 53 ∷ 54 ∷ 56 ∷ 78 ∷ 79 ∷ 221 ∷ 276 ∷ []
+
+-- by its number alone, also where the call isn't decoded. A number that is none of a call has no path
+abbrev pub has_path : ℕ → Bool
+has_path n = list_any (λ m. n == m) path_calls

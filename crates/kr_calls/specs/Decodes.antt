@@ -8,6 +8,8 @@ use Rattle.rv_mem.specs.declared.fault.TextFault.{TextFault}
 use Rattle.rv_mem.specs.declared.fault.TextFault.TheVariants as text
 use Rattle.rv_mem.specs.declared.regs.Regs.{Regs}
 use Rattle.kr_calls.specs.declared.request.Request.{Request}
+use Rattle.kr_calls.specs.Arguments.{number}
+use Rattle.kr_calls.specs.CallTable.{line}
 use Rattle.kr_calls.specs.Decoding.{decoding}
 use Rattle.kr_calls.specs.declared.fault.CallFault.{CallFault}
 use Rattle.kr_calls.specs.declared.fault.CallFault.TheVariants as call
@@ -56,3 +58,11 @@ pub record CanBeGiven (request : Request) : Type 0 where
 -- what was decoded is such a request
 abbrev pub DecodedIsGiven : Type 0
 DecodedIsGiven = (regs : Regs) (old new : Memory) (request : Request) → Decodes (Ok request) (decoding regs) old new → CanBeGiven request
+
+-- a request that was decoded is one whose line has the number in the registers
+abbrev pub DecodedAreNumbered : Type 0
+DecodedAreNumbered = (regs : Regs) (m : Memory) (r : Request) → (carried_out (decoding regs) m).reply ≡ Ok r → (line r).number ≡ number regs
+
+-- decoding writes nothing
+abbrev pub DecodingsLeavePages : Type 0
+DecodingsLeavePages = (regs : Regs) (m : Memory) → (carried_out (decoding regs) m).memory.pages ≡ m.pages

@@ -62,7 +62,7 @@ pub fn decode<const M: u8>(regs: &Regs, mem: &mut Space<M>) -> Result<Request, C
     }
 }
 
-/// The same for calls that have to do with names of files or with users; any other number is ENOSYS.
+/// The request of a call that has to do with names of files or with users; any other number is ENOSYS.
 fn name_or_user<const M: u8>(
     number: u64,
     regs: &Regs,

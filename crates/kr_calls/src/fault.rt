@@ -4,11 +4,22 @@ use rv_mem::TextFault;
 use rv_mem::below::pr_base::{Errno, NoMemory};
 
 /// Why a call was not decoded.
-#[derive(Clone, Copy, Debug, PartialEq, Eq)]
+#[derive(Clone, Copy)]
 pub enum CallFault {
     /// The call answers this error.
     Err(Errno),
     NoMemory,
+}
+
+impl From<NoMemory> for CallFault {
+    ghost use Rattle.std.specs.Prelude.{◌≡◌};
+    ghost use Rattle.kr_calls.specs.declared.fault.CallFault.TheVariants.{NoMemory as Wanting};
+
+    ghost from_gives = { λ error call. call ≡ Wanting };
+
+    fn from(_error: NoMemory) -> CallFault {
+        CallFault::NoMemory
+    }
 }
 
 impl From<TextFault> for CallFault {

@@ -7,10 +7,12 @@
 //! `decode` gives the request in registers and memory exactly as the row of its call says, or the error of its decoding (`decoded`; the rows are
 //! trees of memory actions, one definition for each call). Bytes, rights and marks of the memory stay (`pages`), and whatever is answered the
 //! flag of marked bytes that were read is the definition's; memory is wanting for texts alone (`wanting`). What was decoded can be given by
-//! decoding (`decoded_is_given`), which is what carrying it out will ask.
+//! decoding (`decoded_is_given`), which is what carrying it out will ask. Decoding is a table of rows of four shapes, too (`rows`, in
+//! `specs/Decoding.antt`), from which laws follow: what was decoded has the number of its line (`decoded_are_numbered`), and decoding writes
+//! nothing (`decodings_leave_pages`).
 //!
 //! The table of the calls is a definition (`line`, in `specs/CallTable.antt`): what each is told and along which paths, and what it can do.
-//! `path_of` gives the paths of a line (`path_at`).
+//! `path_of` gives the paths of a line (`path_at`), and `has_path` says of a number whether it is one of a call with a path.
 //!
 //! The scripts that execve(2) expands are a definition here (`expanded`) over how a path is found, with rows worked out by hand.
 //!
@@ -36,7 +38,7 @@ pub mod stat;
 pub use decoding::decode;
 pub use directory_entry::dirent_bytes;
 pub use fault::CallFault;
-pub use paths::{PathArg, path_of};
+pub use paths::{PathArg, has_path, path_of};
 pub use request::Request;
 pub use script::script_line;
 pub use stat::{Stat, stat_bytes};

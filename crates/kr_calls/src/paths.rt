@@ -1,19 +1,18 @@
 //! The table of the calls with paths.
 ghost use Rattle.std.specs.Prelude.{◌≡◌, option_map};
 ghost use Rattle.kr_calls.specs.Arguments.{has};
+ghost use Rattle.kr_calls.specs.CallTable.{has_path};
 ghost use Rattle.kr_calls.specs.PathTable.{path_at};
 ghost use Rattle.kr_calls.specs.PathUses.{link_mode, look_mode, open_mode, path_use};
 
 use crate::arguments::has;
 use crate::request::Request;
 use bitflags::Flags;
+use rv_mem::below::pr_base::limits::AT_FDCWD;
 use rv_mem::below::pr_base::{AtFlags, OpenFlags, WalkMode};
 
-/// AT_FDCWD, which stands for the working directory in place of a descriptor.
-const WORKING_DIRECTORY: i32 = -100;
-
 /// A path of a call.
-#[derive(Clone, Copy, Debug)]
+#[derive(Clone, Copy)]
 pub struct PathArg<'a> {
     /// The descriptor from whose directory a relative path is taken.
     pub dirfd: i32,
@@ -34,7 +33,7 @@ pub fn path_of(r: &Request, k: u8) -> Option<PathArg<'_>>
         ) => {
             match r {
                 $(Request::$here { path, .. } if k == 0 => Some(PathArg {
-                    dirfd: WORKING_DIRECTORY,
+                    dirfd: AT_FDCWD,
                     text: path.as_slice(),
                     mode: WalkMode::Look,
                     register: 10,
@@ -65,6 +64,16 @@ pub fn path_of(r: &Request, k: u8) -> Option<PathArg<'_>>
         Readlinkat 0 dirfd path [] WalkMode::LookLink, 11;
         Newfstatat 0 dirfd path [flags] look_mode(*flags), 11;
     }
+}
+
+/// Whether the call of a number has a path. A number that is none of a call has none.
+pub fn has_path(number: u64) -> bool
+    ensures { result ≡ has_path number }
+{
+    matches!(
+        number,
+        34 | 35 | 36 | 37 | 48 | 49 | 51 | 53 | 54 | 56 | 78 | 79 | 221 | 276
+    )
 }
 
 /// What the walk of newfstatat(2) and fchownat(2) is for.

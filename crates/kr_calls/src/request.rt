@@ -4,7 +4,7 @@ use rv_mem::below::pr_base::Bytes;
 
 /// A call with its arguments, under the names of its manual page in section 2. Numbers of descriptors and
 /// processes, modes and flags have 32 bits; addresses, lengths and the flags of `clone` and `mmap` have 64.
-#[derive(Debug, Drop)]
+#[derive(Drop)]
 pub enum Request {
     Getcwd {
         buf: u64,

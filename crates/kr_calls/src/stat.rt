@@ -4,7 +4,7 @@ ghost use Rattle.std.proofs.Math.Seq.{sets};
 ghost use Rattle.kr_calls.specs.Stats.{stat_layout};
 
 /// What stat(2) tells of a file. Sizes are in bytes, `blocks` counts 512 bytes each.
-#[derive(Clone, Copy, Debug, PartialEq, Eq)]
+#[derive(Clone, Copy)]
 pub struct Stat {
     pub dev: u64,
     pub ino: u64,

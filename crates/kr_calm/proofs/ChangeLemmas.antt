@@ -1,5 +1,6 @@
 -- Changes that break no rule.
 use Rattle.std.proofs.Common.{◌≡◌, ◌≢◌, ℕ, Bool, true, false, ◌&&◌, ◌||◌, not, List, [], ◌∷◌, refl, sym, ap, ◌∙◌, subst}
+use Rattle.std.proofs.lemmas.Bool.{and_parts}
 use Rattle.kr_seen.specs.pr_base.declared.errno.Errno.TheVariants.{ENOSYS}
 use Rattle.kr_seen.specs.rv_mem.Actions.{Action, Done, MayUse, ReadBytes, WriteBytes, allows_uses, carried_out}
 use Rattle.kr_seen.specs.rv_mem.Memory.{Memory, after_read, with_pages}
@@ -22,10 +23,6 @@ use Rattle.kr_calm.specs.InUse.{is_directory_of, is_in_use}
 use Rattle.kr_calm.specs.Laws.{BreakNone, EndBreaks}
 use Rattle.kr_calm.specs.Rules.{any_change, breaks_3, breaks_4, breaks_5}
 
-pub both : (a b : Bool) → (a && b) ≡ true → (a ≡ true) × (b ≡ true)
-both true b e = (refl, e)
-both false b e = absurd cc
-
 pub or-false : (b : Bool) → (b || false) ≡ b
 or-false true = refl
 or-false false = refl
@@ -35,7 +32,7 @@ module _ {M X : Type 0} (computing : Computing X) (mounts : Mounts M) (pid : ℕ
   none-judged : ((s : State M X) (c : Change) (after : State M X) → not (is_judged c) ≡ true → test s c after ≡ false) → (cs : List Change) (s : State M X) → are_unjudged cs ≡ true → any_change computing mounts pid test cs s ≡ false
   none-judged fails [] s e = refl
   none-judged fails (c ∷ cs) s e =
-      let parts = both (not (is_judged c)) (are_unjudged cs) e in
+      let parts = and_parts (not (is_judged c)) (are_unjudged cs) e in
       ap (λ b. b || any_change computing mounts pid test cs (applied computing mounts pid c s)) (fails s c (applied computing mounts pid c s) parts.0) ∙ none-judged fails cs (applied computing mounts pid c s) parts.1
 
 unjudged-third : (table : List Row) (t : Tree) (c : Change) → not (is_judged c) ≡ true → breaks_3 table t c ≡ false
@@ -55,7 +52,7 @@ quiet-unjudged _ e = refl
 are-unjudged : (cs : List Change) → are_quiet cs ≡ true → are_unjudged cs ≡ true
 are-unjudged [] e = refl
 are-unjudged (c ∷ cs) e =
-    let parts = both (is_quiet c) (are_quiet cs) e in
+    let parts = and_parts (is_quiet c) (are_quiet cs) e in
     ap (λ b. b && are_unjudged cs) (quiet-unjudged c parts.0) ∙ are-unjudged cs parts.1
 
 module _ {M X : Type 0} where

@@ -4,6 +4,7 @@ use Rattle.std.proofs.Common.{◌≡◌, ◌≢◌, ℕ, zero, suc, ◌+◌, Boo
 use Rattle.std.specs.Prelude.{map as map_list, ◌==◌, IsSome}
 use Rattle.std.specs.List.{find, list_all}
 use Rattle.std.specs.Option.{option_map, option_map_or}
+use Rattle.std.proofs.lemmas.Bool.{and_parts}
 use Rattle.kr_seen.specs.pr_base.Maps.{changed}
 use Rattle.kr_seen.specs.rv_mem.Memory.{Memory}
 use Rattle.kr_seen.specs.kr_calls.declared.request.Request.{Request}
@@ -21,7 +22,6 @@ use Rattle.kr_seen.specs.kr_model.declared.outcome.Outcome.TheVariants.{Ended}
 use Rattle.kr_seen.proofs.kr_model.BareLemmas.{found-mapped}
 use Rattle.kr_seen.specs.Carrying.{after_row, carried, memory_of, no_memory, with_memory, with_memory_of}
 use Rattle.kr_calm.specs.Laws.{MarksAreKept, leaves_mark}
-use Rattle.kr_calm.proofs.ChangeLemmas.{both}
 use Rattle.kr_calm.proofs.UnjudgedLemmas.{calls-leave}
 
 module _ {M : Type 0} where
@@ -186,7 +186,7 @@ module _ {M : Type 0} where
     all-keep : (mounts : Mounts M) (cs : List Change) (s : State M Image) → list_all leaves_mark cs ≡ true → Keeps s (all_applied images mounts pid cs s)
     all-keep mounts [] s e = refl
     all-keep mounts (c ∷ cs) s e =
-        let parts = both (leaves_mark c) (list_all leaves_mark cs) e in
+        let parts = and_parts (leaves_mark c) (list_all leaves_mark cs) e in
         all-keep mounts cs (applied images mounts pid c s) parts.1 ∙ keeps mounts c s parts.0
 
     -- ---- the memory that a call left

@@ -2,6 +2,7 @@
 use Rattle.std.proofs.Common.{◌≡◌, ℕ, ◌+◌, ◌-◌, ◌*◌, ◌++◌, Bool, true, false, ◌&&◌, ◌||◌, not, cond, List, [], ◌∷◌, length, Option, Some, None, IsSome, is_some, refl, sym, ap, ◌∙◌, subst, ℤ}
 use Rattle.std.specs.Prelude.{◌==◌, nat_le, nat_lt, OnErr, OnOk, Result, Ok, Err, if◌then◌else◌}
 use Rattle.std.specs.Option.{option_and_then, option_map, option_map_or}
+use Rattle.std.proofs.lemmas.Bool.{and_parts}
 use Rattle.kr_seen.specs.pr_base.declared.errno.Errno.{Errno}
 use Rattle.kr_seen.specs.pr_base.declared.errno.Errno.TheVariants.{EBADF, EFAULT, EFBIG, EINVAL, EISDIR, ENOSPC}
 use Rattle.kr_seen.specs.rv_mem.Actions.{CarriedOut, ReadBytes, allows_uses, carried_out, read_if_allowed}
@@ -40,7 +41,6 @@ use Rattle.kr_seen.proofs.CarryLemmas.{own-memory}
 use Rattle.kr_seen.specs.Using.{HasMemory, Reads}
 use Rattle.kr_seen.proofs.UsingLemmas.{has-memory, memory-is, twice}
 use Rattle.kr_calm.specs.Noted.{IsNoted, ListsAreNoted, NotedAsRead, is_read, is_unread, kills, noted}
-use Rattle.kr_calm.proofs.ChangeLemmas.{both}
 
 -- ---- a list that is read twice
 
@@ -84,7 +84,7 @@ kills-on k fd next e = by-number (descriptor_number fd) refl e
     by-open : (n : ℕ) → descriptor_number fd ≡ Some n → (o : Option (Opened (Unit {0}))) → k.opened n ≡ o → option_map_or (λ (o : Opened (Unit {0})). o.write && is_unread k o.what) o false ≡ true → GoesOn k fd next
     by-open n is None found e = absurd cc
     by-open n is (Some o) found e =
-        let parts = both o.write (is_unread k o.what) e in
+        let parts = and_parts o.write (is_unread k o.what) e in
         record {
           number = n;
           opened = o;
@@ -103,8 +103,8 @@ kills-on k fd next e = by-number (descriptor_number fd) refl e
 writev-alike : (k : Known) (fd : ℤ) (list count : ℕ) (m : Memory) (b : Bool) → (kills k fd && is_read list count m) ≡ b → carried_out (writev_row k fd list count) (if b then after_read m list (16 * count) else m) ≡ carried_out (writev_row k fd list count) m
 writev-alike k fd list count m false e = refl
 writev-alike k fd list count m true e =
-    let parts = both (kills k fd) (is_read list count m) e in
-    let reads = both (not (nat_lt 1024 count)) (allows_all m.pages list (16 * count) Read) parts.1 in
+    let parts = and_parts (kills k fd) (is_read list count m) e in
+    let reads = and_parts (not (nat_lt 1024 count)) (allows_all m.pages list (16 * count) Read) parts.1 in
     let on = kills-on k fd (λ number o. with_list list count (write_pieces k number o)) parts.0 in
     ap (λ row. carried_out row (after_read m list (16 * count))) on.row
     ∙ list-read-twice list count (write_pieces k on.number on.opened) m (few (nat_lt 1024 count) reads.0) reads.1

@@ -4,6 +4,7 @@ use Rattle.std.specs.Prelude.{◌==◌, ◌/◌, ◌%◌, nat_eq, if◌then◌el
 use Rattle.std.specs.Option.{option_map, option_map_or}
 use Rattle.std.proofs.lemmas.Bool.Decides.{nat_tests}
 use Rattle.std.proofs.lemmas.Option.{same_Some}
+use Rattle.std.proofs.lemmas.Bool.{and_parts}
 use Rattle.kr_seen.proofs.pr_base.MapLemmas.{get-changed_same}
 use Rattle.kr_seen.specs.pr_base.declared.errno.Errno.TheVariants.{ENOENT, EPERM}
 use Rattle.kr_seen.specs.rv_mem.Actions.{carried_out}
@@ -33,7 +34,6 @@ use Rattle.kr_seen.specs.Carrying.{with_memory_of}
 use Rattle.kr_calm.specs.Foreseen.{gives_owner}
 use Rattle.kr_calm.specs.Laws.{BreakNone, OwnersBreakNone}
 use Rattle.kr_calm.specs.Rules.{serves}
-use Rattle.kr_calm.proofs.ChangeLemmas.{both}
 
 passed : (a b : ℕ) → (a == b) ≡ true → a ≡ b
 passed a b e = grind (arith, nat_tests)
@@ -64,8 +64,8 @@ node-given k uid gid i n there =
     by : (b : Bool) → may_give k.user (record { uid = n.uid; gid = n.gid }) uid gid ≡ b
         → IsGiving k (cond b (done 0 (SetOwner i (or_old uid n.uid) (or_old gid n.gid) ∷ [])) (refuse EPERM))
     by true is =
-        let outer = both (k.user.uid == n.uid && (uid == unchanged || uid == n.uid)) (gid == unchanged || gid == n.gid || gid == k.user.gid) is in
-        let inner = both (k.user.uid == n.uid) (uid == unchanged || uid == n.uid) outer.0 in
+        let outer = and_parts (k.user.uid == n.uid && (uid == unchanged || uid == n.uid)) (gid == unchanged || gid == n.gid || gid == k.user.gid) is in
+        let inner = and_parts (k.user.uid == n.uid) (uid == unchanged || uid == n.uid) outer.0 in
         λ m. given i (or_old uid n.uid) (or_old gid n.gid) n there inner.0 (still-owner uid n.uid inner.1)
     by false is = λ m. none_given
 

@@ -3,6 +3,7 @@ use Rattle.std.proofs.Common.{◌≡◌, ℕ, zero, suc, ◌+◌, ◌<◌, ◌�
 use Rattle.std.specs.List.{list_any}
 use Rattle.std.specs.Option.{option_map}
 use Rattle.std.proofs.lemmas.Option.{none-some, same_Some}
+use Rattle.std.proofs.lemmas.Bool.{or_parts}
 use Rattle.kr_seen.specs.kr_view.View.{Row, Shown, row, shown}
 
 -- what is told of a row is of a row
@@ -28,10 +29,6 @@ row-within (q ∷ rows) (suc k) r e = let l = row-within rows k r e in omega ari
 pub row-below : (rows : List Row) (k : ℕ) (x : Shown) → Some x ≡ option_map shown (row rows k) → k < length rows
 row-below rows k x e = let at = row-shown rows k x e in row-within rows k at.0 at.1
 
-neither : (a b : Bool) → (a || b) ≡ false → (a ≡ false) × (b ≡ false)
-neither true b e = absurd cc
-neither false b e = (refl, e)
-
 module _ (test : Row → Bool) where
   pub some-row : (rows : List Row) (k : ℕ) (r : Row) → row rows k ≡ Some r → test r ≡ true → list_any test rows ≡ true
   some-row [] k r e h = absurd cc
@@ -46,7 +43,7 @@ module _ (test : Row → Bool) where
   one-more [] k r e h before = absurd cc
   one-more (q ∷ rows) zero r e h before = ap (λ b. b || false) (ap test (same_Some q r e) ∙ h)
   one-more (q ∷ rows) (suc k) r e h before =
-      let parts = neither (test q) (list_any test (take k rows)) before in
+      let parts = or_parts (test q) (list_any test (take k rows)) before in
       ap (λ b. b || list_any test (take (suc k) rows)) parts.0 ∙ one-more rows k r e h parts.1
 
   pub next-row : (rows : List Row) (k next : ℕ) (r : Row) → row rows k ≡ Some r → next ≡ k + 1 → test r ≡ false → list_any test (take k rows) ≡ false
@@ -61,5 +58,5 @@ module _ (test : Row → Bool) where
   all-rows [] k e before = refl
   all-rows (q ∷ rows) zero e before = absurd cc
   all-rows (q ∷ rows) (suc k) e before =
-      let parts = neither (test q) (list_any test (take k rows)) before in
+      let parts = or_parts (test q) (list_any test (take k rows)) before in
       ap (λ b. b || list_any test rows) parts.0 ∙ all-rows rows k e parts.1

@@ -1,5 +1,5 @@
 -- What is asked of the rows of a table, and of the processes of a state, one question at a time.
-use Rattle.std.specs.Prelude.{ℕ, ◌≡◌, ◌≢◌, ◌==◌, Bool, ◌&&◌, ◌||◌, not, length, List, Some}
+use Rattle.std.specs.Prelude.{ℕ, ◌≡◌, ◌≢◌, ◌<◌, ◌^◌, ◌==◌, Bool, ◌&&◌, ◌||◌, not, length, List, Some}
 use Rattle.std.specs.List.{list_any}
 use Rattle.kr_seen.specs.kr_tree.Tree.{Tree}
 use Rattle.kr_seen.specs.kr_tree.declared.place.Host.{Host}
@@ -29,6 +29,10 @@ HasRealPoint r = (p : Point) → r.point ≡ Some p → p.dir ≢ 0
 
 abbrev pub HaveRealPoints : List Row → Type 0
 HaveRealPoints table = (k : ℕ) (r : Row) → row table k ≡ Some r → HasRealPoint r
+
+pub record HaveFewPoints (table : List Row) : Type 0 where
+  pub points : HaveRealPoints table
+  pub few : length table < 2 ^ 32
 
 -- ---- processes
 

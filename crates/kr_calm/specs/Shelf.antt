@@ -1,23 +1,12 @@
 -- The shelf: the 65,536 bytes below the stack pointer of a process that makes a call with a path. There a tracer puts the texts
 -- that it swaps, so a run on which the two machines agree reads none of these bytes. A kernel that keeps marks marks them.
-use Rattle.std.specs.Prelude.{ℕ, ◌-◌, ◌==◌, Bool, ◌&&◌, not, List, [], ◌∷◌, nat_eq, nat_le, slice_index, if◌then◌else◌}
-use Rattle.std.specs.List.{list_any}
+use Rattle.std.specs.Prelude.{ℕ, ◌-◌, Bool, ◌&&◌, not, nat_eq, nat_le, slice_index, if◌then◌else◌}
 use Rattle.kr_seen.specs.rv_mem.declared.regs.Regs.{Regs}
 use Rattle.kr_seen.specs.rv_mem.declared.rights.Use.TheVariants.{Read, Write}
 use Rattle.kr_seen.specs.rv_mem.Memory.{Memory, with_pages}
 use Rattle.kr_seen.specs.rv_mem.Pages.{Pages, allows_all, marked}
 use Rattle.kr_seen.specs.kr_calls.Arguments.{number}
-
--- ---- which calls have a path
-
--- mkdirat, unlinkat, symlinkat, linkat; faccessat, chdir, chroot; fchmodat, fchownat, openat; readlinkat, newfstatat; execve,
--- renameat2
-abbrev pub path_calls : List ℕ
-path_calls = 34 ∷ 35 ∷ 36 ∷ 37 ∷ 48 ∷ 49 ∷ 51 ∷ 53 ∷ 54 ∷ 56 ∷ 78 ∷ 79 ∷ 221 ∷ 276 ∷ []
-
--- by its number alone, also where the call isn't decoded. A number that is none of a call has no path
-abbrev pub has_path : ℕ → Bool
-has_path n = list_any (λ m. n == m) path_calls
+pub use Rattle.kr_seen.specs.kr_calls.CallTable.{has_path}
 
 -- ---- the range
 

@@ -1,9 +1,9 @@
 //! Links and renames that lead from mount to mount, or out of a source or a mount point.
-ghost use Rattle.std.specs.Prelude.{◌≡◌, ◌<◌, ◌^◌, length};
+ghost use Rattle.std.specs.Prelude.{◌≡◌};
 ghost use Rattle.kr_seen.specs.kr_model.Walks as walks;
 ghost use Rattle.kr_seen.specs.CallWalks.{IsTold};
 ghost use Rattle.kr_seen.specs.Placed.{placed_in};
-ghost use Rattle.kr_calm.specs.Questions.{HaveRealPoints};
+ghost use Rattle.kr_calm.specs.Questions.{HaveFewPoints};
 ghost use Rattle.kr_calm.specs.Rules.{are_parted, crosses, link_crosses, rename_crosses};
 
 use crate::rows::{RowQuestion, any_row};
@@ -13,8 +13,7 @@ use kr_seen::below::{Host, Places, Request, Target, Tree};
 
 /// Whether two directories lie below different sources or mount points.
 fn are_parted<P: Places>(places: &P, tree: &Tree, one: Host, other: Host) -> bool
-    requires points { HaveRealPoints (P.mounts places.now) }
-    requires few { length (P.mounts places.now) < 2 ^ 32 }
+    requires { HaveFewPoints (P.mounts places.now) }
     ensures { result ≡ are_parted (P.mounts places.now) tree.now one other }
 {
     any_row(
@@ -41,8 +40,7 @@ fn rename_crosses<P: Places>(
     old: &Target<P::Mount>,
     new: &Target<P::Mount>,
 ) -> bool
-    requires points { HaveRealPoints (P.mounts places.now) }
-    requires few { length (P.mounts places.now) < 2 ^ 32 }
+    requires { HaveFewPoints (P.mounts places.now) }
     ensures { result ≡ rename_crosses (P.mounts places.now) tree.now (placed_in P.number old.now) (placed_in P.number new.now) }
 {
     !places.same(old.dir.mount, new.dir.mount)
@@ -57,8 +55,7 @@ pub fn crosses<P: Places>(
     request: &Request,
     targets: &Targets<P::Mount>,
 ) -> bool
-    requires points { HaveRealPoints (P.mounts places.now) }
-    requires few { length (P.mounts places.now) < 2 ^ 32 }
+    requires { HaveFewPoints (P.mounts places.now) }
     ensures { (t : walks.Targets) → IsTold P.number t.first targets.now.first → IsTold P.number t.second targets.now.second → result ≡ crosses (P.mounts places.now) tree.now request.now t }
 {
     let (Some(old), Some(new)) = (&targets.first, &targets.second) else {

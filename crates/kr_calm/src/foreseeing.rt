@@ -1,5 +1,5 @@
 //! What a call would break of the rules on changes, told before it is carried out.
-ghost use Rattle.std.specs.Prelude.{◌≡◌, ◌<◌, ◌^◌, ℕ, [], length};
+ghost use Rattle.std.specs.Prelude.{◌≡◌, ℕ, []};
 ghost use Rattle.std.specs.Option.{option_and_then, option_map_or};
 ghost use Rattle.kr_seen.specs.kr_model.Asking.{descriptor_number};
 ghost use Rattle.kr_seen.specs.kr_model.NameRows.{is_one};
@@ -12,7 +12,7 @@ ghost use Rattle.kr_seen.specs.Numbered.{state_numbered};
 ghost use Rattle.kr_seen.specs.Told.{taken_told};
 ghost use Rattle.kr_calm.specs.Foreseen.{call_foreseen, foreseen_of, mode_opened, nothing};
 ghost use Rattle.kr_calm.specs.Prospects.{mode_set, move, removal, renameat2_made, unlinkat_made};
-ghost use Rattle.kr_calm.specs.Questions.{HaveRealPoints};
+ghost use Rattle.kr_calm.specs.Questions.{HaveFewPoints};
 
 use crate::judging::{
     guarded, removal_takes_source, removal_takes_used, rename_takes_source, rename_takes_used,
@@ -50,8 +50,7 @@ fn foresee_removal<P: Places, const M: u8>(
     dir: Host,
     name: &[u8],
 ) -> Foreseen
-    requires points { HaveRealPoints (P.mounts places.now) }
-    requires few { length (P.mounts places.now) < 2 ^ 32 }
+    requires mounts { HaveFewPoints (P.mounts places.now) }
     requires served { IsServed state.now }
     ensures { result ≡ foreseen_of (P.mounts places.now) (meaning state.now) (removal dir name.now) }
 {
@@ -74,8 +73,7 @@ fn foresee_move<P: Places, const M: u8>(
     to: Host,
     new: &[u8],
 ) -> Foreseen
-    requires points { HaveRealPoints (P.mounts places.now) }
-    requires few { length (P.mounts places.now) < 2 ^ 32 }
+    requires mounts { HaveFewPoints (P.mounts places.now) }
     requires served { IsServed state.now }
     ensures { result ≡ foreseen_of (P.mounts places.now) (meaning state.now) (move dir name.now to new.now) }
 {
@@ -95,8 +93,7 @@ fn foresee_mode<P: Places, const M: u8>(
     state: &State<P::Mount, M>,
     host: Host,
 ) -> Foreseen
-    requires points { HaveRealPoints (P.mounts places.now) }
-    requires few { length (P.mounts places.now) < 2 ^ 32 }
+    requires mounts { HaveFewPoints (P.mounts places.now) }
     requires served { IsServed state.now }
     ensures { (mode : ℕ) → result ≡ foreseen_of (P.mounts places.now) (meaning state.now) (mode_set host mode) }
 {
@@ -116,8 +113,7 @@ fn foresee_found_mode<P: Places, const M: u8>(
     state: &State<P::Mount, M>,
     found: Option<Place<P::Mount>>,
 ) -> Foreseen
-    requires points { HaveRealPoints (P.mounts places.now) }
-    requires few { length (P.mounts places.now) < 2 ^ 32 }
+    requires mounts { HaveFewPoints (P.mounts places.now) }
     requires served { IsServed state.now }
     ensures { (mode : ℕ) → result ≡ foreseen_of (P.mounts places.now) (meaning state.now) (option_map_or (λ p. mode_set p.host mode) found []) }
 {
@@ -133,8 +129,7 @@ fn foresee_taken<P: Places, const M: u8>(
     state: &State<P::Mount, M>,
     taken: Taken<'_>,
 ) -> Foreseen
-    requires points { HaveRealPoints (P.mounts places.now) }
-    requires few { length (P.mounts places.now) < 2 ^ 32 }
+    requires mounts { HaveFewPoints (P.mounts places.now) }
     requires served { IsServed state.now }
     ensures { result ≡ foreseen_of (P.mounts places.now) (meaning state.now) (unlinkat_made (taken_told taken.entry)) }
 {
@@ -161,8 +156,7 @@ fn foresee_moved<P: Places, const M: u8>(
     old: Taken<'_>,
     new: Taken<'_>,
 ) -> Foreseen
-    requires points { HaveRealPoints (P.mounts places.now) }
-    requires few { length (P.mounts places.now) < 2 ^ 32 }
+    requires mounts { HaveFewPoints (P.mounts places.now) }
     requires served { IsServed state.now }
     ensures { result ≡ foreseen_of (P.mounts places.now) (meaning state.now) (renameat2_made (taken_told old.entry) (taken_told new.entry)) }
 {
@@ -188,8 +182,7 @@ fn foresee_open_mode<P: Places, const M: u8>(
     pid: u32,
     fd: i32,
 ) -> Foreseen
-    requires points { HaveRealPoints (P.mounts places.now) }
-    requires few { length (P.mounts places.now) < 2 ^ 32 }
+    requires mounts { HaveFewPoints (P.mounts places.now) }
     requires sound { IsSound state.now }
     ensures { (mode : ℕ) → result ≡ foreseen_of (P.mounts places.now) (meaning state.now) (mode_opened mode (option_and_then (λ fd. opened pid fd (meaning state.now)) (descriptor_number fd))) }
 {
@@ -210,8 +203,7 @@ pub fn foresee<P: Places, const M: u8>(
     request: &Request,
     targets: &Targets<P::Mount>,
 ) -> Foreseen
-    requires points { HaveRealPoints (P.mounts places.now) }
-    requires few { length (P.mounts places.now) < 2 ^ 32 }
+    requires mounts { HaveFewPoints (P.mounts places.now) }
     requires sound { IsSound state.now }
     ensures { AreTargets P.number (targets_of (P.mounts places.now) pid (state_numbered P.number (meaning state.now)) request.now) (Ok targets.now) → result ≡ call_foreseen (P.mounts places.now) pid request.now (state_numbered P.number (meaning state.now)) }
 {

@@ -1,12 +1,12 @@
 //! What changes of names and modes break.
-ghost use Rattle.std.specs.Prelude.{◌≡◌, ◌<◌, ◌^◌, ℕ, length};
+ghost use Rattle.std.specs.Prelude.{◌≡◌, ℕ};
 ghost use Rattle.kr_seen.specs.kr_model.Change.{MoveName, RemoveName};
 ghost use Rattle.kr_seen.specs.kr_ops.Meaning.{meaning};
 ghost use Rattle.kr_seen.specs.kr_ops.Sound.{IsServed};
 ghost use Rattle.kr_seen.specs.Numbered.{state_numbered};
 ghost use Rattle.kr_calm.specs.Foreseen.{guarded};
 ghost use Rattle.kr_calm.specs.InUse.{is_directory_of, is_in_use};
-ghost use Rattle.kr_calm.specs.Questions.{HaveRealPoints};
+ghost use Rattle.kr_calm.specs.Questions.{HaveFewPoints};
 ghost use Rattle.kr_calm.specs.Rules.{breaks_3, is_above_rows, is_above_use, names_source, of_entry, serves, takes_in_use};
 
 use crate::rows::{RowQuestion, any_row};
@@ -31,8 +31,7 @@ fn is_entry_above<P: Places, const M: u8>(
     dir: Ino,
     name: &[u8],
 ) -> bool
-    requires points { HaveRealPoints (P.mounts places.now) }
-    requires few { length (P.mounts places.now) < 2 ^ 32 }
+    requires { HaveFewPoints (P.mounts places.now) }
     ensures { result ≡ of_entry state.now.tree dir name.now (is_above_rows (P.mounts places.now) state.now.tree) }
 {
     match state.tree.entry(dir, name) {
@@ -48,8 +47,7 @@ fn names_source<P: Places, const M: u8>(
     dir: Ino,
     name: &[u8],
 ) -> bool
-    requires points { HaveRealPoints (P.mounts places.now) }
-    requires few { length (P.mounts places.now) < 2 ^ 32 }
+    requires { HaveFewPoints (P.mounts places.now) }
     ensures { result ≡ names_source (P.mounts places.now) dir name.now }
 {
     any_row(places, &state.tree, RowQuestion::Named(dir, name))
@@ -62,8 +60,7 @@ pub(crate) fn removal_takes_source<P: Places, const M: u8>(
     dir: Ino,
     name: &[u8],
 ) -> bool
-    requires points { HaveRealPoints (P.mounts places.now) }
-    requires few { length (P.mounts places.now) < 2 ^ 32 }
+    requires { HaveFewPoints (P.mounts places.now) }
     ensures { result ≡ breaks_3 (P.mounts places.now) state.now.tree (RemoveName dir name.now) }
 {
     names_source(places, state, dir, name)
@@ -78,8 +75,7 @@ pub(crate) fn rename_takes_source<P: Places, const M: u8>(
     to: Ino,
     new: &[u8],
 ) -> bool
-    requires points { HaveRealPoints (P.mounts places.now) }
-    requires few { length (P.mounts places.now) < 2 ^ 32 }
+    requires { HaveFewPoints (P.mounts places.now) }
     ensures { result ≡ breaks_3 (P.mounts places.now) state.now.tree (MoveName dir name.now to new.now) }
 {
     names_source(places, state, dir, name)
@@ -124,8 +120,7 @@ pub fn end_takes_used<T: Copy, const M: u8>(state: &State<T, M>, pid: u32) -> bo
 
 /// Whether a directory has to go on giving search.
 fn serves<P: Places, const M: u8>(places: &P, state: &State<P::Mount, M>, ino: Ino) -> bool
-    requires points { HaveRealPoints (P.mounts places.now) }
-    requires few { length (P.mounts places.now) < 2 ^ 32 }
+    requires mounts { HaveFewPoints (P.mounts places.now) }
     requires served { IsServed state.now }
     ensures { result ≡ serves (P.mounts places.now) (meaning state.now) ino }
 {
@@ -141,8 +136,7 @@ pub(crate) fn guarded<P: Places, const M: u8>(
     state: &State<P::Mount, M>,
     ino: Ino,
 ) -> Option<Ino>
-    requires points { HaveRealPoints (P.mounts places.now) }
-    requires few { length (P.mounts places.now) < 2 ^ 32 }
+    requires mounts { HaveFewPoints (P.mounts places.now) }
     requires served { IsServed state.now }
     ensures { result ≡ guarded (P.mounts places.now) (meaning state.now) ino }
 {

@@ -46,4 +46,4 @@ pub use judging::end_takes_used;
 pub use noting::note_list;
 pub use reach::reaches_too_far;
 pub use rule::Rule;
-pub use shelf::{has_path, mark_shelf};
+pub use shelf::mark_shelf;

@@ -1,27 +1,24 @@
 //! What a call reads of its caller's memory before it ends it.
-ghost use Rattle.std.specs.Prelude.{◌≡◌, ◌*◌, ◌≤◌, ℕ, IsSome, length, if◌then◌else◌};
+ghost use Rattle.std.specs.Prelude.{◌≡◌, ◌*◌, ◌≤◌, ℕ, length, if◌then◌else◌};
 ghost use Rattle.kr_seen.specs.rv_mem.Memory.{after_read};
 ghost use Rattle.kr_seen.specs.rv_mem.Pages.{allows_all};
 ghost use Rattle.kr_seen.specs.kr_model.Asking.{descriptor_number};
 ghost use Rattle.kr_seen.specs.kr_model.Known.{known};
-ghost use Rattle.kr_seen.specs.kr_model.State.{image_layout, process};
+ghost use Rattle.kr_seen.specs.kr_model.State.{image_layout};
 ghost use Rattle.kr_seen.specs.kr_ops.Meaning.{meaning};
-ghost use Rattle.kr_seen.specs.kr_ops.Sound.{IsSound};
+ghost use Rattle.kr_seen.specs.kr_ops.Sound.{IsSound, IsSoundFor};
 ghost use Rattle.kr_seen.specs.Carrying.{memory_of};
 ghost use Rattle.kr_seen.specs.Using.{HasMemory};
 ghost use Rattle.kr_calm.specs.Noted.{IsNoted, is_read, is_unread, kills};
 
-use kr_seen::below::{Request, State, Use, What};
+use kr_seen::below::{MOST_PIECES, Request, State, Use, What};
 use kr_seen::caller::read_into;
-
-/// The most pieces of a list.
-const PIECES: u64 = 1024;
 
 /// How many bytes a piece has in a list: an address and a length.
 const PIECE: usize = 16;
 
 /// How many bytes a list has at most.
-const LIST: usize = 16_384;
+const LIST: usize = PIECE * MOST_PIECES as usize;
 
 /// A number that isn't negative, `None` exactly where it is.
 pub(crate) fn natural(number: i32) -> Option<u32>
@@ -65,8 +62,7 @@ fn read_front<T: Copy, const M: u8>(
     n: usize,
     buffer: &mut [u8],
 )
-    requires sound { IsSound state.old }
-    requires lives { IsSome (process pid (meaning state.old)) }
+    requires caller { IsSoundFor pid state.old }
     requires room { n ≤ length buffer.old }
     ensures { let memory = memory_of pid (meaning state.old) in
         HasMemory pid (if allows_all memory.pages at n Use.Read then after_read memory at n else memory) state.old state.new }
@@ -76,12 +72,11 @@ fn read_front<T: Copy, const M: u8>(
 
 /// Reads a list of pieces, if it has at most 1,024 and can be read.
 fn read_list<T: Copy, const M: u8>(state: &mut State<T, M>, pid: u32, list: u64, count: u64)
-    requires sound { IsSound state.old }
-    requires lives { IsSome (process pid (meaning state.old)) }
+    requires { IsSoundFor pid state.old }
     ensures { let memory = memory_of pid (meaning state.old) in
         HasMemory pid (if is_read list count memory then after_read memory list (16 * count) else memory) state.old state.new }
 {
-    if count <= PIECES {
+    if count <= MOST_PIECES {
         read_front(state, pid, list, PIECE * count as usize, &mut [0; LIST]);
     }
 }
@@ -89,8 +84,7 @@ fn read_list<T: Copy, const M: u8>(state: &mut State<T, M>, pid: u32, list: u64,
 /// Notes in the caller's memory what a call reads before it ends it: the list of a writev(2) into a pipe that nobody reads. The call
 /// reads it again then, and comes to the same.
 pub fn note_list<T: Copy, const M: u8>(state: &mut State<T, M>, pid: u32, request: &Request)
-    requires sound { IsSound state.old }
-    requires lives { IsSome (process pid (meaning state.old)) }
+    requires { IsSoundFor pid state.old }
     ensures { IsNoted pid request.now state.old state.new }
 {
     if let Request::Writev { fd, list, count } = request {

@@ -1,9 +1,9 @@
 //! What is asked of the rows of the table of mounts.
-ghost use Rattle.std.specs.Prelude.{◌≡◌, ◌<◌, ◌^◌, length};
+ghost use Rattle.std.specs.Prelude.{◌≡◌};
 ghost use Rattle.std.specs.List.{list_any};
 ghost use Rattle.kr_seen.specs.kr_view.Rows.{row_told};
 ghost use Rattle.kr_seen.specs.kr_view.View.{Row, shown};
-ghost use Rattle.kr_calm.specs.Questions.{HasRealPoint, HaveRealPoints, row_answers};
+ghost use Rattle.kr_calm.specs.Questions.{HasRealPoint, HaveFewPoints, row_answers};
 ghost use Rattle.kr_calm.specs.Rules.{differ, is_above_point, is_above_row, is_below_point, is_between, is_named, serves_row};
 
 use crate::above::is_at_or_below;
@@ -98,8 +98,7 @@ fn row_answers(tree: &Tree, row: MountRow<'_>, question: RowQuestion<'_>) -> boo
 
 /// Whether a row answers yes.
 pub(crate) fn any_row<P: Places>(places: &P, tree: &Tree, question: RowQuestion<'_>) -> bool
-    requires points { HaveRealPoints (P.mounts places.now) }
-    requires few { length (P.mounts places.now) < 2 ^ 32 }
+    requires { HaveFewPoints (P.mounts places.now) }
     ensures { result ≡ list_any (row_answers question.entry tree.now) (P.mounts places.now) }
 {
     let mut k = 0;

@@ -1,28 +1,15 @@
 //! The shelf of a call with a path.
 ghost use Rattle.std.specs.Prelude.{◌≡◌};
 ghost use Rattle.kr_seen.specs.rv_mem.Memory.{page_count};
-ghost use Rattle.kr_calm.specs.Shelf.{has_path, is_usable, lacks_shelf_by, shelved_by};
+ghost use Rattle.kr_calm.specs.Shelf.{is_usable, lacks_shelf_by, shelved_by};
 
-use kr_seen::below::{Regs, Space, Use};
+use kr_seen::below::{Regs, SHELF, Space, Use, has_path};
 
 /// The register of a call's number.
 const A7: usize = 17;
 
 /// The stack pointer.
 const SP: usize = 2;
-
-/// How many bytes a shelf has.
-const SHELF: u64 = 65_536;
-
-/// Whether the call of a number has a path. A number that is none of a call has none.
-pub fn has_path(number: u64) -> bool
-    ensures { result ≡ has_path number }
-{
-    matches!(
-        number,
-        34 | 35 | 36 | 37 | 48 | 49 | 51 | 53 | 54 | 56 | 78 | 79 | 221 | 276
-    )
-}
 
 /// Whether the bytes below a stack pointer can all be read and written.
 fn is_usable<const M: u8>(sp: u64, mem: &Space<M>) -> bool

@@ -9,10 +9,7 @@ ghost use Rattle.kr_calm.specs.InUse.{any_opened, directory_of, is_directory_of}
 ghost use Rattle.kr_calm.specs.Questions.{opened_answers, own_answers, use_answers};
 
 use crate::above::is_at_or_below;
-use kr_seen::below::{Descs, Files, Host, Ino, Opened, ProcAt, State, Tree, What};
-
-/// How many descriptors a process may have, which are numbered from 0 on.
-const DESCRIPTORS: u32 = 1024;
+use kr_seen::below::{DESCRIPTORS, Descs, Files, Host, Ino, Opened, ProcAt, State, Tree, What};
 
 /// A question about what processes use.
 #[derive(Clone, Copy)]

@@ -22,7 +22,7 @@ use std::alloc::Global;
 use std::marker::Model;
 
 /// What a call for a turn did.
-#[derive(Clone, Copy, Debug, PartialEq, Eq)]
+#[derive(Clone, Copy)]
 pub enum Turned {
     /// A process ran.
     Ran,
@@ -92,7 +92,7 @@ impl<P: Places + Drop, S: Stops + Drop, const MARKED: u8> Kernel<P, S, MARKED> {
         }
     }
 
-    /// The same, and beside it the calm rule that the walks of the start broke, which a kernel that keeps no marks forgets.
+    /// A kernel at its start, as `start` gives it, and the calm rule that the walks of the start broke, which a kernel that keeps no marks forgets.
     pub fn start_judged(
         alloc: Global,
         places: P,

@@ -4,12 +4,7 @@ ghost use Rattle.std.specs.Option.{SomeIff};
 ghost use Rattle.kr_calls.specs.Expansion.{bytes_with_ends, is_too_big};
 
 use elf_read::below::pr_base::Texts;
-
-/// The most arguments, and the most environment texts.
-pub const MOST_TEXTS: usize = 4096;
-
-/// The most bytes of both lists, with an end for each text.
-pub const MOST_BYTES: usize = 131_072;
+use elf_read::below::pr_base::limits::{MOST_BYTES, MOST_TEXTS};
 
 /// How many bytes texts have with their ends, `None` where that is more than `most`.
 fn bytes_within(texts: &Texts, most: usize) -> Option<usize>

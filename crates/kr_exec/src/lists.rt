@@ -8,8 +8,8 @@ ghost use Rattle.kr_calls.specs.Expansion.{bytes_with_ends};
 ghost use Rattle.kr_exec.specs.Exec.{are_too_big};
 ghost use Rattle.kr_exec.specs.Lists.{address_at, text_at, text_within, list_at, lists_at, texts_from, most_texts, at_least_one, Reads, texts_read};
 
-use crate::limits::{MOST_BYTES, MOST_TEXTS};
-use elf_read::below::pr_base::{Bytes, Errno, NoMemory, Texts};
+use elf_read::below::pr_base::limits::{MOST_BYTES, MOST_TEXTS};
+use elf_read::below::pr_base::{Bytes, Errno, Texts};
 use kr_calls::CallFault;
 use kr_calls::below::rv_mem::{Space, TextFault, Use};
 use std::alloc::Global;
@@ -18,7 +18,7 @@ use std::alloc::Global;
 const ADDRESS_SIZE: u64 = 8;
 
 /// The arguments of a program, and its environment.
-#[derive(Debug, Drop)]
+#[derive(Drop)]
 pub struct Lists {
     pub args: Texts,
     pub env: Texts,
@@ -93,7 +93,7 @@ fn read_list<const M: u8>(
     read_texts(alloc, mem, at, room)
 }
 
-/// The same for a list whose addresses begin at one.
+/// Reads the texts of a list whose addresses begin at one.
 fn read_texts<const M: u8>(
     alloc: Global,
     mem: &mut Space<M>,
@@ -177,8 +177,5 @@ fn add(texts: &mut Texts, text: Bytes) -> Result<(), CallFault>
     ensures ok { OnOk result (texts.new ≡ texts.old ++ text ∷ []) }
     ensures err { IfErr result (λ fault. fault ≡ CallFault.NoMemory) }
 {
-    match texts.push(text) {
-        Ok(()) => Ok(()),
-        Err(NoMemory) => Err(CallFault::NoMemory),
-    }
+    Ok(texts.push(text)?)
 }

@@ -21,7 +21,7 @@ use std::alloc::Global;
 
 /// A program that can be loaded: its file with the place where it was found, the directory and name that the executable
 /// remembers, what the loader needs of the file, and what the program is given.
-#[derive(Debug, Drop)]
+#[derive(Drop)]
 pub struct ExecPlan<M> {
     pub file: Ino,
     pub place: Place<M>,

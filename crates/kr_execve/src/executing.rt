@@ -1,12 +1,8 @@
 //! execve(2) as a whole.
-ghost use Rattle.std.specs.Prelude.{IsSome};
 ghost use Rattle.kr_perform.specs.law_allowed.Told.{SourcesAreNamed};
 ghost use Rattle.kr_execve.specs.Executing.{told_of, Leaves};
 ghost use Rattle.kr_perform.specs.law_allowed.Texts.{IsText, LinksHaveTexts};
-ghost use Rattle.kr_perform.specs.kr_model.Lawful.{IsLawful};
-ghost use Rattle.kr_perform.specs.kr_model.State.{process};
-ghost use Rattle.kr_seen.specs.kr_ops.Meaning.{meaning};
-ghost use Rattle.kr_seen.specs.kr_ops.Sound.{IsServed};
+ghost use Rattle.kr_seen.specs.kr_ops.Sound.{IsLawfulFor};
 ghost use Rattle.kr_exec.specs.kr_tree.Lawful.{AreBytes};
 
 use crate::finding::{cwd_of, find, plan};
@@ -18,7 +14,7 @@ use kr_seen::below::{Errno, State, lawful_states_are_sound};
 use std::alloc::Global;
 
 /// What became of an execve.
-#[derive(Clone, Copy, Debug, PartialEq, Eq)]
+#[derive(Clone, Copy)]
 pub enum Executed {
     /// A new program is in place of the caller's. Whether a marked byte of the old memory was read before it went.
     Replaced { marks_read: bool },
@@ -43,10 +39,8 @@ pub fn execute<P: Places, const M: u8>(
     requires text { IsText path.now }
     requires bytes { AreBytes path.now }
     requires named { SourcesAreNamed (P.mounts places.now) }
-    requires lawful { IsLawful P.number (P.mounts places.now) (meaning state.old) }
+    requires caller { IsLawfulFor P.number (P.mounts places.now) pid state.old }
     requires links { LinksHaveTexts state.old.tree }
-    requires served { IsServed state.old }
-    requires lives { IsSome (process pid (meaning state.old)) }
     ensures { Leaves P.number (P.mounts places.now) pid path.now args env state.old state.new reach.old reach.new result }
 {
     match replace(alloc, places, state, pid, path, args, env, reach) {
@@ -56,7 +50,8 @@ pub fn execute<P: Places, const M: u8>(
     }
 }
 
-/// The same, with what is refused as an error; and whether a marked byte of the old memory was read.
+/// Puts the program of an execve in place of the caller's, as `execute` tells it. What is refused is an error; `Ok` says whether a marked
+/// byte of the old memory was read.
 fn replace<P: Places, const M: u8>(
     alloc: Global,
     places: &P,
@@ -70,10 +65,8 @@ fn replace<P: Places, const M: u8>(
     requires text { IsText path.now }
     requires bytes { AreBytes path.now }
     requires named { SourcesAreNamed (P.mounts places.now) }
-    requires lawful { IsLawful P.number (P.mounts places.now) (meaning state.old) }
+    requires caller { IsLawfulFor P.number (P.mounts places.now) pid state.old }
     requires links { LinksHaveTexts state.old.tree }
-    requires served { IsServed state.old }
-    requires lives { IsSome (process pid (meaning state.old)) }
     ensures { Leaves P.number (P.mounts places.now) pid path.now args env state.old state.new reach.old reach.new (told_of result) }
 {
     lawful_states_are_sound::<P::Mount, M>();

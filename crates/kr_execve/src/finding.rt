@@ -1,15 +1,13 @@
 //! The file of a new program, and its plan, over the state of a kernel.
-ghost use Rattle.std.specs.Prelude.{◌≡◌, false, true, IfOk, Some, IsSome};
+ghost use Rattle.std.specs.Prelude.{◌≡◌, false, true, IfOk, Some};
 ghost use Rattle.kr_seen.specs.pr_base.declared.path.WalkMode.TheVariants.{Look};
 ghost use Rattle.kr_exec.specs.Answers.{plan_numbered, Answers, Reaches};
 ghost use Rattle.kr_exec.specs.Exec.{are_too_big, exec_plan, exec_reach};
 ghost use Rattle.kr_exec.specs.Finding.{is_program, is_program_found, program_at, program_walk};
 ghost use Rattle.kr_perform.specs.kr_model.Applied.{cwd_of};
-ghost use Rattle.kr_perform.specs.kr_model.Lawful.{IsLawful};
 ghost use Rattle.kr_perform.specs.kr_model.ProcessDirectory.{around_of};
-ghost use Rattle.kr_perform.specs.kr_model.State.{process};
 ghost use Rattle.kr_seen.specs.kr_ops.Meaning.{meaning};
-ghost use Rattle.kr_seen.specs.kr_ops.Sound.{IsServed, IsSound};
+ghost use Rattle.kr_seen.specs.kr_ops.Sound.{IsLawfulIn, IsSoundFor};
 ghost use Rattle.kr_seen.specs.Numbered.{state_numbered};
 ghost use Rattle.kr_exec.specs.kr_tree.declared.place.Host.TheVariants.{Node};
 ghost use Rattle.kr_exec.specs.kr_view.Answers.{target_numbered, IsAnswer, IsReached};
@@ -24,8 +22,7 @@ use std::alloc::Global;
 
 /// The working directory of a living process.
 pub fn cwd_of<T: Copy, const M: u8>(state: &State<T, M>, pid: u32) -> Place<T>
-    requires sound { IsSound state.now }
-    requires lives { IsSome (process pid (meaning state.now)) }
+    requires { IsSoundFor pid state.now }
     ensures { cwd_of pid (meaning state.now) ≡ Some result }
 {
     match state.index_of(pid) {
@@ -44,8 +41,7 @@ pub fn find<P: Places, const M: u8>(
     path: &[u8],
     reach: &mut Reach,
 ) -> Result<Target<P::Mount>, WalkFault>
-    requires lawful { IsLawful P.number (P.mounts places.now) (meaning state.now) }
-    requires served { IsServed state.now }
+    requires { IsLawfulIn P.number (P.mounts places.now) state.now }
     ensures answer { let around = around_of (P.mounts places.now) pid (state_numbered P.number (meaning state.now)) in
         IsAnswer P.number (program_at around (numbered P.number base) path.now) result }
     ensures program { IfOk result (λ target. is_program_found state.now.tree state.now.user target.found ≡ true) }
@@ -79,8 +75,7 @@ pub fn plan<P: Places, const M: u8>(
     lists: Lists,
     reach: &mut Reach,
 ) -> Result<ExecPlan<P::Mount>, WalkFault>
-    requires lawful { IsLawful P.number (P.mounts places.now) (meaning state.now) }
-    requires served { IsServed state.now }
+    requires state { IsLawfulIn P.number (P.mounts places.now) state.now }
     requires program { is_program_found state.now.tree state.now.user found.found ≡ true }
     ensures answer { let around = around_of (P.mounts places.now) pid (state_numbered P.number (meaning state.now)) in
         Answers (plan_numbered P.number) (exec_plan around (numbered P.number base) (target_numbered P.number found) path.now lists.args lists.env) result }

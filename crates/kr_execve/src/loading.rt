@@ -1,26 +1,22 @@
 //! A new program in place of that of a process.
-ghost use Rattle.std.specs.Prelude.{◌≡◌, ◌+◌, false, true, IfOk, IsErrOf, IsSome, OnErr, OnOk};
+ghost use Rattle.std.specs.Prelude.{◌≡◌, ◌+◌, false, true, IfOk, IsErrOf, OnErr, OnOk};
 ghost use Rattle.elf_load.specs.Image.{image_exceeds, program_break};
 ghost use Rattle.kr_exec.specs.Interpreters.{bytes_at};
 ghost use Rattle.kr_execve.specs.Execution.{ids_of, image_of};
 ghost use Rattle.kr_execve.specs.Executing.{Gives, IsLoadable, IsReadyFor, Loads, Puts};
 ghost use Rattle.kr_perform.specs.kr_model.State.{process};
-ghost use Rattle.kr_seen.specs.kr_ops.Meaning.{meaning};
-ghost use Rattle.kr_seen.specs.kr_ops.Sound.{IsSound};
+ghost use Rattle.kr_seen.specs.kr_ops.Sound.{IsSoundFor};
 ghost use Rattle.kr_exec.specs.kr_tree.declared.place.Host.TheVariants.{Node};
 ghost use Rattle.elf_load.specs.rv_mem.Memory.{page_count};
 ghost use Rattle.elf_load.specs.rv_mem.Pages.{IsPlaced, IsWhole};
 
-use elf_load::below::rv_mem::{Room, Use};
+use elf_load::below::rv_mem::{ALL_PAGES, Room, Use};
 use elf_load::{Image, LoadFault, load};
 use kr_exec::ExecPlan;
 use kr_exec::below::kr_tree::{Ino, Tree, User};
 use kr_exec::below::kr_view::WalkFault;
 use kr_seen::below::{Errno, State, lawful_states_are_sound};
 use std::alloc::Global;
-
-/// How many pages there may be in a memory, by their addresses.
-const ALL_PAGES: u32 = 67_108_863;
 
 /// The bytes of a file; none of what is none.
 fn bytes_of(tree: &Tree, file: Ino) -> &[u8]
@@ -50,6 +46,7 @@ fn image_of<T: Copy, const M: u8>(
     let ids = [user.uid, user.uid, user.gid, user.gid];
     match load(alloc, room, file, &plan.plan, &plan.args, &plan.env, ids) {
         Ok(image) => {
+            // For the proof alone: what holds of every memory.
             let _can = image.mem.can(0, 0, Use::Read);
             Ok(image)
         }
@@ -67,8 +64,7 @@ fn replace_image<T: Copy, const M: u8>(
     pid: u32,
     plan: &ExecPlan<T>,
 ) -> Result<(), WalkFault>
-    requires sound { IsSound state.old }
-    requires lives { IsSome (process pid (meaning state.old)) }
+    requires caller { IsSoundFor pid state.old }
     requires loadable { IsLoadable state.old.tree plan.now }
     ensures { Loads pid plan.now state.old state.new result }
 {

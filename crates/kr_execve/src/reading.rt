@@ -1,9 +1,7 @@
 //! The lists of texts that a call hands over.
-ghost use Rattle.std.specs.Prelude.{◌≡◌, IsSome};
+ghost use Rattle.std.specs.Prelude.{◌≡◌};
 ghost use Rattle.kr_execve.specs.Executing.{ReadsLists};
-ghost use Rattle.kr_perform.specs.kr_model.State.{process};
-ghost use Rattle.kr_seen.specs.kr_ops.Meaning.{meaning};
-ghost use Rattle.kr_seen.specs.kr_ops.Sound.{IsSound};
+ghost use Rattle.kr_seen.specs.kr_ops.Sound.{IsSoundFor};
 
 use kr_exec::below::kr_calls::CallFault;
 use kr_exec::below::kr_view::WalkFault;
@@ -19,8 +17,7 @@ pub fn read<T: Copy, const M: u8>(
     args: u64,
     env: u64,
 ) -> Result<Lists, WalkFault>
-    requires sound { IsSound state.old }
-    requires lives { IsSome (process pid (meaning state.old)) }
+    requires { IsSoundFor pid state.old }
     ensures { ReadsLists pid args env state.old state.new result }
 {
     let Some(k) = state.index_of(pid) else {

@@ -3,7 +3,7 @@ use Rattle.std.specs.FinMap as map
 use Rattle.std.proofs.Common.{◌≡◌, ◌≤◌, ◌-◌, length-append, length-drop, inl, inr, subst, ℕ, zero, suc, Bool, true, false, ◌&&◌, ◌||◌, List, [], ◌∷◌, ◌++◌, length, take, drop, refl, sym, ap, ◌∙◌, arith, cond, Option, Some, None}
 use Rattle.std.specs.Prelude.{◌==◌, min, nat_le, IsSome}
 use Rattle.std.specs.Option.{option_map, option_map_or}
-use Rattle.std.proofs.lemmas.Bool.{cases_eq, false≢true}
+use Rattle.std.proofs.lemmas.Bool.{and_parts, cases_eq, false≢true}
 use Rattle.std.proofs.lemmas.Bool.Decides.{nat_tests}
 use Rattle.std.proofs.lemmas.List.{append-nil, length-take}
 use Rattle.std.proofs.lemmas.Option.{same_Some}
@@ -40,10 +40,6 @@ reader_told pipes p q here = ap (λ o. option_map_or (λ (r : Pipe). r.reader) o
 is_empty : (bs : List ℕ) → (length bs == 0) ≡ true → bs ≡ []
 is_empty [] h = refl
 is_empty (b ∷ bs) h = let e : (length (b ∷ bs) == 0) ≡ false = grind (arith, nat_tests) in absurd (false≢true (sym e ∙ h))
-
-both : (a b : Bool) → (a && b) ≡ true → (a ≡ true) × (b ≡ true)
-both true b h = (refl, h)
-both false b h = absurd (false≢true h)
 
 drop_nothing : (n : ℕ) (bs : List ℕ) → bs ≡ [] → drop n bs ≡ bs
 drop_nothing n bs e = ap (drop n) e ∙ none n ∙ sym e
@@ -146,7 +142,7 @@ module _ {M : Type 0} (o : Store M) (pipes : PipeTable) (last_file last_pipe : �
       read-waits waits = read_answer ∙ ap (λ b. Some (cond b ReadNotReady (Bytes (take n q.bytes)))) waits
 
       pub read-waits_after : read_waits q.bytes q.writer ≡ true → kept ≡ on_table (pipe_after_read p n) kept
-      read-waits_after waits = kept_same (drop n q.bytes) (drop_nothing n q.bytes (is_empty q.bytes (both _ _ waits).0)) ∙ sym read_after
+      read-waits_after waits = kept_same (drop n q.bytes) (drop_nothing n q.bytes (is_empty q.bytes (and_parts _ _ waits).0)) ∙ sym read_after
 
       pub read-moves : (bytes : List ℕ) → read_waits q.bytes q.writer ≡ false → bytes ≡ take n q.bytes → option_map (λ bytes. moved_of bytes (has_writer kept.table p) n) (map.get (bytes_of pipes) p) ≡ Some (Bytes bytes)
       read-moves bytes ready is = read_answer ∙ ap (λ b. Some (cond b ReadNotReady (Bytes (take n q.bytes)))) ready ∙ ap (λ b. Some (Bytes b)) (sym is)

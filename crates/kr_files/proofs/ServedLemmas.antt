@@ -1,6 +1,6 @@
 -- What a process's descriptors name stays served, whatever a call answers.
 use Rattle.std.specs.FinMap as map
-use Rattle.std.proofs.Common.{◌≡◌, ◌≢◌, ◌≤◌, ◌<◌, ◌+◌, ◌^◌, inl, inr, subst, ℕ, Bool, true, false, is_some, refl, sym, ap, ◌∙◌, arith, List, Option, Some, None}
+use Rattle.std.proofs.Common.{◌≡◌, ◌≢◌, ◌≤◌, ◌<◌, ◌+◌, inl, inr, subst, ℕ, Bool, true, false, refl, sym, ap, ◌∙◌, arith, List, Option, Some, None}
 use Rattle.std.specs.Prelude.{IsSome, Result, Ok, Err, IfOk, OnOk, OnErr}
 use Rattle.std.specs.Option.{option_map, option_map_or, option_and_then}
 use Rattle.kr_tree.specs.pr_base.declared.memory.NoMemory.{NoMemory}
@@ -12,19 +12,13 @@ use Rattle.kr_files.specs.declared.descs.Descriptor.{Descriptor}
 use Rattle.kr_files.specs.declared.opened.Opened.{Opened}
 use Rattle.kr_files.specs.declared.opened.FilesRefusal.{FilesRefusal}
 use Rattle.kr_files.specs.Descriptors.{Descriptors, meanings, lowest_free, lowest_pair, IsLowestFree, with_copy_at, with_cloexec, named_count}
-use Rattle.kr_files.specs.Files.{Counted, Kept, Table, FitsCopies, NamesOpenFiles, with_copies, with_all_opened, with_bytes, Gives, GivesPair, empty_table, with_file, with_pipe, on_table, on_opened, with_opened, by_descriptor, copied, released, count_at}
+use Rattle.kr_files.specs.Files.{Counted, Kept, Table, NamesOpenFiles, with_copies, with_all_opened, with_bytes, Gives, GivesPair, empty_table, with_file, with_pipe, on_table, on_opened, with_opened, by_descriptor, copied, released}
 use Rattle.kr_tree.specs.pr_base.Maps.{changed}
 use Rattle.kr_files.specs.Serves.{Serves, IsFresh}
 use Rattle.kr_tree.proofs.pr_base.MapLemmas.{same_values, by_key, get-insert_same, get-insert_other, get-remove_same, get-remove_other, get-changed_same, get-changed_other, get-mapped}
-use Rattle.kr_files.proofs.CountLemmas.{below_small}
 use Rattle.kr_files.proofs.DescriptorLemmas.{lowest_free-some}
-use Rattle.kr_files.proofs.ServesLemmas.{one_at, serves-empty, serves-same, serves-add, serves-raise, serves-close, serves-put, serves-room, serves-fork, names-close}
+use Rattle.kr_files.proofs.ServesLemmas.{one_at, serves-empty, serves-same, serves-add, serves-raise, serves-close, serves-put, serves-fork, names-close}
 use Rattle.kr_files.proofs.OpenFileLemmas.{value_of}
-
--- what is told of what is there
-pub some_told : {X Y : Type 0} (o : Option X) (f : X → Y) → is_some (option_map f o) ≡ true → IsSome o
-some_told None f h = h
-some_told (Some x) f h = refl
 
 insert_over : (d : Descriptors) (k : ℕ) (x : Descriptor) → map.insert (map.remove d k) k x ≡ map.insert d k x
 insert_over d k x =
@@ -47,22 +41,6 @@ pair_found d first second e = first_found (lowest_free d 0) refl e
         (lowest_free-some d 0 first (p ∙ ap Some more.0), lowest_free-some d (first + 1) second (ap (λ m. lowest_free d (m + 1)) (sym more.0) ∙ more.1))
 
 module _ {M : Type 0} where
-  -- one more descriptor can be counted where one process has all of them
-  pub served-room : (f : Kept M) (d : Descriptors) → Serves f d (λ _. 0) → (fd : ℕ) → count_at f d fd + 1 < 2 ^ 32
-  served-room f d s fd =
-      elim (map.get d fd) as (λ o. option_map_or (λ (x : Descriptor). option_map_or (λ (h : Counted M). h.count) (map.get f.table.files x.number) 0) o 0 + 1 < 2 ^ 32) [
-        | None ↦ omega arith
-        | Some x ↦ of_file x.number (map.get f.table.files x.number) refl
-      ]
-    where
-      of_file : (n : ℕ) (o : Option (Counted M)) → map.get f.table.files n ≡ o → option_map_or (λ (h : Counted M). h.count) o 0 + 1 < 2 ^ 32
-      of_file n None e = omega arith
-      of_file n (Some h) e = omega (arith, serves-room f d (λ _. 0) s (λ _. refl) n h e, below_small (meanings d) n 1024)
-
-  -- so a copy of each can be counted
-  pub served-fits : (f : Kept M) (d : Descriptors) → Serves f d (λ _. 0) → FitsCopies f d
-  served-fits f d s n h e = omega (arith, serves-room f d (λ _. 0) s (λ _. refl) n h e, below_small (meanings d) n 1024)
-
   pub served-new : (f : Kept M) (d : Descriptors) → f ≡ record { keys = map.empty; table = empty_table } → d ≡ map.empty → Serves f d (λ _. 0)
   served-new f d e g = serves-empty f d (ap (λ (k : Kept M). k.table.files) e) g
 

@@ -243,10 +243,6 @@ module _ {M : Type 0} where
             let is : h.count + named_count (meanings d) n ≡ k.count = ap (λ (y : Counted M). y.count) (same_Some (counted_more (named_count (meanings d) n) h) k c) in
             omega (arith, is, s.counted n h e)
 
-    -- the count of what a descriptor names, where nothing else names it
-    pub serves-room : ((n : ℕ) → others n ≡ 0) → (n : ℕ) (h : Counted M) → map.get f.table.files n ≡ Some h → h.count ≡ named_count (meanings d) n
-    serves-room none n h at = let e = none n in omega (arith, s.counted n h at, e)
-
   -- a free descriptor names what something else named
   pub serves-put : (f : Kept M) (d : Descriptors) (others : ℕ → ℕ) (to : ℕ) (x : Descriptor) → Serves f d (λ n. others n + one_at x.number n)
       → map.get d to ≡ None → to < 1024 → map.get f.keys x.key ≡ Some x.number → x.number ≤ f.table.last_file → Serves f (map.insert d to x) others

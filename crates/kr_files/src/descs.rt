@@ -3,11 +3,9 @@ ghost use Rattle.std.specs.Prelude.{◌≡◌, ℕ, ◌<◌, ◌≤◌, vec_len,
 ghost use Rattle.std.specs.FinMap as map;
 
 use kr_tree::below::pr_base::NoMemory;
+use kr_tree::below::pr_base::limits::DESCRIPTORS;
 use std::alloc::Global;
 use std::marker::Model;
-
-/// How many descriptors a process may have, which are numbered from 0 on.
-pub const DESCRIPTORS: u32 = 1024;
 
 /// An open file by the key of its entry, the number that it was opened under, and whether a
 /// successful execve closes this descriptor.
@@ -174,6 +172,7 @@ impl Descs {
     pub(crate) fn are_few(&self)
         ensures { AreFew self.now }
     {
+        // For the proof alone: what holds of each `Descs`.
         let _ = &self.list;
     }
 

@@ -65,6 +65,7 @@ impl<M: Copy> OpenFiles<M> {
         ensures keys { HaveKeys self.now.keys self.now.files }
         ensures counts { AreCounted self.now.files }
     {
+        // For the proof alone: what holds of each table.
         let _ = &self.slab;
     }
 

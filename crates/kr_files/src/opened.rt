@@ -123,7 +123,7 @@ pub enum What {
 }
 
 /// Why no descriptor was given.
-#[derive(Clone, Copy, Debug, PartialEq)]
+#[derive(Clone, Copy)]
 pub enum FilesRefusal {
     /// Too few descriptors are free, or there are as many pipes as there may be.
     Full,
@@ -151,7 +151,7 @@ pub enum Moved {
 }
 
 /// What a write to a pipe answers.
-#[derive(Clone, Copy, Debug, PartialEq)]
+#[derive(Clone, Copy)]
 pub enum Wrote {
     /// How many of the bytes were put in.
     Took(u32),

@@ -1,13 +1,11 @@
 //! One pipe.
 ghost use Rattle.std.specs.Prelude.{◌≡◌, ◌+◌, ◌-◌, ◌<◌, ◌≤◌, [], ◌++◌, length, take, drop, min, IfOk, OnOk, OnErr, true, false};
 
+use kr_tree::below::pr_base::limits::PIPE_BYTES;
 use kr_tree::below::pr_base::{Bytes, NoMemory};
 use std::alloc::Global;
 use std::collections::VecDeque;
 use std::marker::Model;
-
-/// How many bytes a pipe holds at most.
-pub const PIPE_BYTES: usize = 65_536;
 
 /// The bytes of a pipe, the oldest first, and which of its ends are open.
 #[derive(Drop)]

@@ -4,7 +4,8 @@ ghost use Rattle.std.specs.Option.{option_copied, option_map};
 ghost use Rattle.std.specs.FinMap as map;
 
 use crate::opened::What;
-use crate::pipe::{PIPE_BYTES, Pipe};
+use crate::pipe::Pipe;
+use kr_tree::below::pr_base::limits::PIPE_BYTES;
 use kr_tree::below::pr_base::{Bytes, NoMemory};
 use std::alloc::Global;
 use std::collections::BTreeMap;

@@ -22,7 +22,7 @@ use pr_base::{Bytes, Errno, NoMemory, Texts};
 use std::alloc::Global;
 
 /// What is asked of a start.
-#[derive(Debug, Drop)]
+#[derive(Drop)]
 pub struct First {
     /// The path of the program; one that isn't absolute begins in the working directory.
     pub path: Bytes,
@@ -38,7 +38,7 @@ pub struct First {
 }
 
 /// Why there is no first process.
-#[derive(Clone, Copy, Debug, PartialEq, Eq)]
+#[derive(Clone, Copy)]
 pub enum StartFault {
     /// The error of execve(2).
     Err(Errno),
@@ -83,7 +83,7 @@ pub fn start<P: Places, const M: u8>(
     }
 }
 
-/// The same, with the error of a walk.
+/// Starts a run as `start` tells it, with the error of a walk.
 fn run_first<P: Places, const M: u8>(
     alloc: Global,
     places: &P,

@@ -15,7 +15,7 @@ use Rattle.kr_seen.specs.kr_view.View.{plain, root_place}
 use Rattle.kr_seen.specs.kr_view.Walk.{place_walk}
 use Rattle.kr_seen.specs.kr_files.declared.opened.Opened.{Opened}
 use Rattle.kr_seen.specs.kr_model.HostView.{base_name, base_text, cwd_name, exe_name, host_around_of, host_leads, host_open, host_space, linked_text, open_name}
-use Rattle.kr_seen.specs.kr_model.Peeks.{head_at, kind_along, kind_of_base, link_text_at, name_or_none, peeked_of, read_of}
+use Rattle.kr_seen.specs.kr_model.Peeks.{head_at, kind_along, kind_of_base, link_text_at, name_or_none, peeked_of, read_of, steady_along}
 use Rattle.kr_seen.specs.kr_model.ProcessDirectory.{jump_to, name_text, unplaced_text}
 use Rattle.kr_seen.specs.kr_model.State.{Image, Process, State, opened, process}
 use Rattle.kr_seen.specs.Numbered.{opened_numbered, process_numbered, state_numbered}
@@ -135,6 +135,7 @@ module _ {T : Type 0} (by : T → ℕ) (s : State T Image) where
     kind = λ path. kind_along (around-told caller j) path;
     link_text = λ path. read_of (λ x. text-told caller x j) (place_walk (around-told caller j) LookLink (root_place plain) path).answer;
     head = λ path n. read_of (head_at s.tree s.user n) (place_walk (around-told caller j) LookLink (root_place plain) path).answer;
+    steady = λ path. steady_along (around-told caller j) LookLink path;
     base_kind = λ pid fd. kind-told pid fd j;
     base_name = λ pid fd. base-named pid fd j;
     cwd_name = λ pid. cwd-named pid j;

@@ -1,21 +1,23 @@
 -- Walks of the host's own view in code, and what is read where they end.
-use Rattle.std.proofs.Common.{◌≡◌, ℕ, List, Option, Some, None, Result, Ok, Err, refl, sym, ap, subst, ◌∙◌}
+use Rattle.std.proofs.Common.{◌≡◌, ℕ, not, Option, Some, None, Result, Ok, Err, refl, sym, ap, subst, ◌∙◌}
 use Rattle.std.specs.Option.{option_map}
 use Rattle.pr_base.specs.declared.errno.Errno.{Errno}
 use Rattle.pr_base.specs.declared.errno.Errno.TheVariants.{ENOENT}
-use Rattle.pr_base.specs.declared.path.WalkMode.TheVariants.{LookLink}
+use Rattle.pr_base.specs.declared.path.WalkMode.{WalkMode}
 use Rattle.kr_seen.specs.kr_tree.declared.place.Host.{Host}
 use Rattle.kr_seen.specs.kr_tree.declared.place.Place.{Place}
+use Rattle.kr_seen.specs.kr_view.declared.target.Reach.{Reach}
 use Rattle.kr_seen.specs.kr_view.declared.target.Target.{Target}
-use Rattle.kr_seen.specs.kr_view.declared.target.WalkFault.{WalkFault}
 use Rattle.kr_seen.specs.kr_view.declared.view.HostMount.{HostMount}
 use Rattle.kr_seen.specs.kr_view.Answers.{IsAnswer}
+use Rattle.kr_seen.specs.kr_view.Component.{Surroundings}
 use Rattle.kr_seen.specs.kr_view.Leads.{numbered}
 use Rattle.kr_seen.specs.kr_view.Living.{finds_among}
+use Rattle.kr_seen.specs.kr_view.Reach.{is_steady, nothing, reach_after}
 use Rattle.kr_seen.specs.kr_view.View.{plain, root_place}
-use Rattle.kr_seen.specs.kr_view.Walk.{PlaceTarget, place_walk, surroundings}
+use Rattle.kr_seen.specs.kr_view.Walk.{PlaceTarget, PlaceTrail, surroundings}
 use Rattle.kr_seen.specs.kr_model.HostView.{host_around_of, host_leads, host_space}
-use Rattle.kr_seen.specs.kr_model.Peeks.{answer_along, at_found, kind_of_answer, kind_seen}
+use Rattle.kr_seen.specs.kr_model.Peeks.{at_found, kind_of_answer, kind_seen}
 use Rattle.kr_seen.specs.kr_model.ProcessDirectory.{living_of}
 use Rattle.kr_seen.specs.kr_model.State.{Image, State}
 use Rattle.kr_seen.specs.kr_ops.declared.state.State.{State as Held}
@@ -24,16 +26,17 @@ use Rattle.kr_hostview.specs.OnHost.{lead_on_host, number}
 use Rattle.kr_hostview.specs.Peeking.{IsFound, kind_at}
 use Rattle.kr_hostview.proofs.LawLemmas.{told-same}
 
-module _ {T : Type 0} {M : ℕ} (state procs : Held T M) (same : procs ≡ state) (caller : ℕ) (base : Place ℕ) (rooted : base ≡ root_place plain) (path : List ℕ) (result : Result (Target HostMount) WalkFault) where
-  pub walked-on-host : IsAnswer number (place_walk (surroundings number plain state.tree state.user (finds_among (living_of (meaning procs))) (λ at. lead_on_host (host_leads (meaning procs) caller at))) LookLink base path).answer result
-      → IsAnswer number (answer_along (meaning state) caller path) result
+-- what holds of a walk over what the code shows holds over the host's own view of the state
+module _ {T : Type 0} {M : ℕ} (state procs : Held T M) (same : procs ≡ state) (caller : ℕ) (base : Place ℕ) (rooted : base ≡ root_place plain) (Holds : Surroundings → Place ℕ → Type 0) where
+  pub walked-on-host : Holds (surroundings number plain state.tree state.user (finds_among (living_of (meaning procs))) (λ at. lead_on_host (host_leads (meaning procs) caller at))) base → Holds (host_around_of (meaning state) caller) (root_place plain)
   walked-on-host h =
-      subst (λ leads. IsAnswer number (place_walk (record { space = host_space (meaning state); leads = leads }) LookLink (root_place plain) path).answer result) (λ j at. told-same (meaning state) caller at j)
-      (subst (λ base. IsAnswer number (place_walk (surroundings number plain state.tree state.user (finds_among (living_of (meaning state))) (λ at. lead_on_host (host_leads (meaning state) caller at))) LookLink base path).answer result) rooted
-      (subst
-      (λ (procs : Held T M).
-      IsAnswer number (place_walk (surroundings number plain state.tree state.user (finds_among (living_of (meaning procs))) (λ at. lead_on_host (host_leads (meaning procs) caller at))) LookLink base path).answer result)
-      same h))
+      subst (λ leads. Holds (record { space = host_space (meaning state); leads = leads }) (root_place plain)) (λ j at. told-same (meaning state) caller at j)
+      (subst (Holds (surroundings number plain state.tree state.user (finds_among (living_of (meaning state))) (λ at. lead_on_host (host_leads (meaning state) caller at)))) rooted
+      (subst (λ (procs : Held T M). Holds (surroundings number plain state.tree state.user (finds_among (living_of (meaning procs))) (λ at. lead_on_host (host_leads (meaning procs) caller at))) base) same h))
+
+-- so a walk that reached nothing before tells whether it is steady
+pub told-steady : (around : Surroundings) (mode : WalkMode) (trail : PlaceTrail) (old new : Reach) → old ≡ nothing → new ≡ reach_after around mode trail old → not new.met_proc ≡ is_steady around mode trail
+told-steady around mode trail old new first reached = ap (λ (r : Reach). not r.met_proc) (reached ∙ ap (reach_after around mode trail) first)
 
 -- the object of what a walk found
 pub is-found : (answer : Result PlaceTarget Errno) (target : Target HostMount) (object : Option Host) → object ≡ option_map (λ (p : Place HostMount). p.host) target.found → IsAnswer number answer (Ok target) → IsFound answer (Ok object)

@@ -60,6 +60,7 @@ impl<'a, T: Copy, const M: u8> Peeks for HostPeeks<'a, T, M> {
     ghost use Rattle.kr_seen.specs.kr_model.Peeks.{peeked_of};
     ghost use Rattle.kr_seen.specs.kr_ops.Meaning.{meaning};
     ghost use Rattle.kr_hostview.specs.Asked.{Asked};
+    ghost use Rattle.kr_hostview.specs.NoJumps.{no-jump};
     ghost use Rattle.kr_hostview.specs.Texts.{texts-told};
 
     ghost peeked = { λ v. peeked_of (meaning v.state) v.caller };
@@ -83,6 +84,11 @@ impl<'a, T: Copy, const M: u8> Peeks for HostPeeks<'a, T, M> {
         peeks::head(self.alloc, self.state, self.caller, host, n)
     }
 
+    fn steady(&mut self, host: &[u8]) -> Result<bool, NoMemory> {
+        self.is_of_view();
+        peeks::steady(self.alloc, self.state, self.caller, host)
+    }
+
     fn base_kind(&mut self, pid: u32, fd: u32) -> BaseKind {
         self.is_of_view();
         peeks::base_kind(self.state, pid, fd)
@@ -104,6 +110,8 @@ impl<'a, T: Copy, const M: u8> Peeks for HostPeeks<'a, T, M> {
     }
 
     ghost names_are_texts = { λ v. texts-told (peeked_of (meaning v.state) v.caller) v.texts };
+
+    ghost steady_is_no_jump = { λ v. no-jump (meaning v.state) v.caller };
 }
 
 impl<'a, T: Copy, const M: u8> HostPeeks<'a, T, M> {
@@ -111,6 +119,7 @@ impl<'a, T: Copy, const M: u8> HostPeeks<'a, T, M> {
     fn is_of_view(&self)
         ensures { IsOfView self.now.state }
     {
+        // For the proof alone: what holds of each `HostPeeks`.
         let _state = &self.state;
     }
 }

@@ -12,7 +12,8 @@
 //! walks ask.
 //!
 //! `HostPeeks` implements `Peeks` in a caller's name: each call answers what the walk of the host's own view finds, exactly as kr_model defines
-//! it (`peeked_of`), or want of memory. `peeks` has the same calls on a state that is lent. What their walks meet isn't told.
+//! it (`peeked_of`), or want of memory; and whether that walk looks up a name in the process directory: where it doesn't, no link of that directory
+//! is found. `peeks` has the same calls on a state that is lent. What else their walks meet isn't told.
 //!
 //! Only tested, or not shown: No tests of its own.
 #![tactic(auto)]

@@ -2,11 +2,13 @@
 ghost use Rattle.std.specs.Prelude.{◌≡◌, ℕ, ◌<◌, ◌^◌, [], take, IfOk, Ok, Err};
 ghost use Rattle.std.specs.Option.{option_map};
 ghost use Rattle.pr_base.specs.Peeks.{IsPeeked, NamesAreTexts};
-ghost use Rattle.kr_seen.specs.kr_view.Answers.{IsAnswer};
+ghost use Rattle.pr_base.specs.declared.path.WalkMode.TheVariants.{LookLink};
+ghost use Rattle.kr_seen.specs.kr_view.Answers.{IsAnswer, IsReached};
+ghost use Rattle.kr_seen.specs.kr_view.Reach.{nothing};
 ghost use Rattle.kr_seen.specs.kr_view.View.{plain, root_place};
 ghost use Rattle.kr_seen.specs.kr_view.declared.view.HostMount.{HostMount};
-ghost use Rattle.kr_seen.specs.kr_model.HostView.{base_name, base_text, cwd_name, exe_name, host_space};
-ghost use Rattle.kr_seen.specs.kr_model.Peeks.{answer_along, head_at, kind_of_base, link_text_at, name_or_none, peeked_of};
+ghost use Rattle.kr_seen.specs.kr_model.HostView.{base_name, base_text, cwd_name, exe_name, host_around_of, host_space};
+ghost use Rattle.kr_seen.specs.kr_model.Peeks.{answer_along, head_at, host_walk, is_steady_path, kind_of_base, link_text_at, name_or_none, peeked_of};
 ghost use Rattle.kr_seen.specs.kr_model.ProcessDirectory.{name_text};
 ghost use Rattle.kr_seen.specs.kr_model.State.{opened};
 ghost use Rattle.kr_seen.specs.kr_ops.Meaning.{meaning};
@@ -77,6 +79,24 @@ pub fn head<T: Copy, const M: u8>(
     }
 }
 
+/// Whether the walk along a host path looks up no name in the process directory, wherever it ends.
+pub fn steady<T: Copy, const M: u8>(
+    alloc: Global,
+    state: &State<T, M>,
+    caller: u32,
+    host: &[u8],
+) -> Result<bool, NoMemory>
+    requires { IsOfView state.now }
+    ensures { IfOk result (λ steady. steady ≡ is_steady_path (meaning state.now) caller host.now) }
+{
+    let mut reach = nowhere();
+    match walked(alloc, state, caller, host, &mut reach) {
+        Ok(_target) => Ok(!reach.met_proc),
+        Err(WalkFault::Err(_errno)) => Ok(!reach.met_proc),
+        Err(WalkFault::NoMemory) => Err(NoMemory),
+    }
+}
+
 /// What a descriptor of a process is.
 pub fn base_kind<T: Copy, const M: u8>(state: &State<T, M>, pid: u32, fd: u32) -> BaseKind
     requires { IsOfView state.now }
@@ -144,7 +164,8 @@ fn find<T: Copy, const M: u8>(
     requires { IsOfView state.now }
     ensures { IsFound (answer_along (meaning state.now) caller host.now) result }
 {
-    match walked(alloc, state, caller, host) {
+    let mut reach = nowhere();
+    match walked(alloc, state, caller, host, &mut reach) {
         Ok(target) => Ok(found_in(target)),
         Err(fault) => Err(fault_of(fault)),
     }
@@ -160,22 +181,31 @@ fn found_in(target: Target<HostMount>) -> Option<Host>
     }
 }
 
-/// Where the walk along a host path ends, if a last link isn't followed. What it meets isn't told.
+/// Nothing was reached yet.
+fn nowhere() -> Reach
+    ensures { result ≡ nothing }
+{
+    Reach {
+        longest: 0,
+        met_proc: false,
+    }
+}
+
+/// Where the walk along a host path ends, if a last link isn't followed, and what it reaches.
 fn walked<T: Copy, const M: u8>(
     alloc: Global,
     state: &State<T, M>,
     caller: u32,
     host: &[u8],
+    reach: &mut Reach,
 ) -> Result<Target<HostMount>, WalkFault>
     requires { IsOfView state.now }
-    ensures { IsAnswer number (answer_along (meaning state.now) caller host.now) result }
+    ensures answer { IsAnswer number (answer_along (meaning state.now) caller host.now) result }
+    ensures reach { let s = meaning state.now in
+        IsReached (host_around_of s caller) LookLink (host_walk s caller LookLink host.now) reach.old reach.new result }
 {
     let places = Plain::new();
     let procs = host_procs(alloc, state);
-    let mut reach = Reach {
-        longest: 0,
-        met_proc: false,
-    };
     resolve(
         alloc,
         &places,
@@ -186,7 +216,7 @@ fn walked<T: Copy, const M: u8>(
         places.root(),
         host,
         WalkMode::LookLink,
-        &mut reach,
+        reach,
     )
 }
 
@@ -389,5 +419,6 @@ pub(crate) fn told_names_are_texts<T: Copy, const M: u8>(state: &State<T, M>)
 fn numbers_are_small<T, const M: u8>(state: &State<T, M>)
     ensures { state.now.next_pid < 2 ^ 32 }
 {
+    // For the proof alone: the field has 32 bits.
     let _next = state.next_pid;
 }

@@ -11,7 +11,7 @@ ghost use Rattle.kr_hostview.specs.OnHost.{host_target, number, target_on_host};
 use kr_seen::below::{HostMount, Place, Places, Plain, ProcAt, State, lawful_states_are_sound};
 use kr_seen::target::{Target, cwd_of, exe_of, open_at, root_of};
 
-/// The same object in the one host mount.
+/// What a target leads to, with each place in the host's one mount.
 fn on_host<T: Copy>(target: Target<'_, T>) -> Target<'_, HostMount>
     ensures { target_told result ≡ target_on_host (target_told target.entry) }
 {

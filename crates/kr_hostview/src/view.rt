@@ -86,6 +86,7 @@ impl<'a, T: Copy, const M: u8> HostProcs<'a, T, M> {
     fn is_of_view(&self)
         ensures { IsOfView self.now }
     {
+        // For the proof alone: what holds of each `HostProcs`.
         let _state = &self.state;
     }
 

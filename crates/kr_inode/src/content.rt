@@ -169,7 +169,7 @@ fn put(bytes: &mut Vec<u8>, at: usize, b: &[u8])
     put_slice(bytes.as_mut_slice(), at, b);
 }
 
-/// The same of a slice.
+/// Writes bytes over those of a slice from a place on.
 fn put_slice(bytes: &mut [u8], at: usize, b: &[u8])
     requires { at + length b.now ≤ length bytes.old }
     ensures { bytes.new ≡ take at bytes.old ++ b.now ++ drop (at + length b.now) bytes.old }

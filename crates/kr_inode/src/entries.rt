@@ -10,7 +10,7 @@ use std::marker::Model;
 use std::ops::Bound;
 
 /// What is kept at a name: the serial of the entry, and the inode that it stands for.
-#[derive(Clone, Copy, Debug, PartialEq, Eq)]
+#[derive(Clone, Copy)]
 pub struct Slot {
     pub serial: u64,
     pub inode: Ino,

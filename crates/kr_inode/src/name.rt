@@ -13,7 +13,7 @@ pub fn is_name(name: &[u8]) -> bool
     passes(name)
 }
 
-/// The same, as the definition tests it.
+/// The tests of `is_name`, as the definition has them.
 fn passes(name: &[u8]) -> bool
     ensures { result ≡ is_name name.now }
 {

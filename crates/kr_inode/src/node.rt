@@ -7,7 +7,7 @@ pub type Ino = u32;
 
 /// Mode, owner and group of a node, how many names it has and how many bytes. Of a directory the
 /// size is 0. Where it is handed in, `names` and `size` aren't read.
-#[derive(Clone, Copy, Debug, PartialEq, Eq)]
+#[derive(Clone, Copy)]
 pub struct Meta {
     pub mode: u16,
     pub uid: u32,
@@ -17,7 +17,7 @@ pub struct Meta {
 }
 
 /// The kind of a node. `Proc` is the process directory.
-#[derive(Clone, Copy, Debug, PartialEq, Eq)]
+#[derive(Clone, Copy, PartialEq)]
 pub enum Kind {
     Dir,
     File,
@@ -27,7 +27,7 @@ pub enum Kind {
 
 /// A node that is to be added: a directory without entries, a file with its bytes, a link with its
 /// text, or the process directory.
-#[derive(Debug, Drop)]
+#[derive(Drop)]
 pub enum Node {
     Dir,
     File(Bytes),

@@ -1,5 +1,6 @@
 pub use Rattle.kr_calls.proofs.pr_base as pr_base
 pub use Rattle.kr_calls.proofs.rv_mem as rv_mem
+pub use Rattle.kr_calls.proofs as kr_calls
 pub use Rattle.kr_files.proofs.kr_inode as kr_inode
 pub use Rattle.kr_files.proofs.kr_tree as kr_tree
 pub use Rattle.kr_procfs.proofs.kr_view as kr_view

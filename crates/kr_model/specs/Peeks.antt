@@ -1,11 +1,12 @@
 -- What a kernel tells a tracer of a state, in the name of a caller: what the walks of the host's own view find, where a last link
--- isn't followed.
+-- isn't followed, and whether they are steady.
 use Rattle.std.specs.Prelude.{◌≡◌, ℕ, Bool, true, false, List, [], take, Option, Some, None, Result, Ok, Err, if◌then◌else◌}
 use Rattle.std.specs.Fmt.{decimal}
 use Rattle.kr_calls.specs.pr_base.Peeks.{Peeked, NamesAreTexts}
 use Rattle.kr_calls.specs.pr_base.WalkFrame.{Fails, Missing, Leads, Links, Jumps}
 use Rattle.kr_calls.specs.pr_base.declared.errno.Errno.{Errno}
 use Rattle.kr_calls.specs.pr_base.declared.errno.Errno.TheVariants.{EACCES, EINVAL, ENOENT}
+use Rattle.kr_calls.specs.pr_base.declared.path.WalkMode.{WalkMode}
 use Rattle.kr_calls.specs.pr_base.declared.path.WalkMode.TheVariants.{LookLink}
 use Rattle.kr_calls.specs.pr_base.declared.peeks.BaseKind.{BaseKind}
 use Rattle.kr_calls.specs.pr_base.declared.peeks.BaseKind.TheVariants as base_kind
@@ -22,8 +23,9 @@ use Rattle.kr_files.specs.kr_tree.Rights.{may}
 use Rattle.kr_files.specs.kr_tree.Tree.{Body, Directory, RegularFile, SymbolicLink, ProcessDirectory, Tree, body}
 use Rattle.kr_procfs.specs.kr_view.Component.{SeenPlace, Surroundings, seen_at}
 use Rattle.kr_procfs.specs.kr_view.Living.{Each, HasSmallNumbers}
+use Rattle.kr_procfs.specs.kr_view.Reach.{is_steady}
 use Rattle.kr_procfs.specs.kr_view.View.{plain, root_place}
-use Rattle.kr_procfs.specs.kr_view.Walk.{PlaceTarget, place_walk}
+use Rattle.kr_procfs.specs.kr_view.Walk.{PlaceTarget, PlaceTrail, place_walk}
 use Rattle.kr_files.specs.declared.opened.Opened.{Opened}
 use Rattle.kr_model.specs.FileRows.{is_dir}
 use Rattle.kr_model.specs.HostView.{base_name, base_text, cwd_name, exe_name, host_around_of, host_space}
@@ -88,6 +90,11 @@ abbrev pub read_of : (Host → Result (List ℕ) Errno) → Result PlaceTarget E
 read_of read (Ok target) = read_at read target.found
 read_of read (Err e) = Err e
 
+-- ---- whether a walk is steady
+
+abbrev pub steady_along : Surroundings → WalkMode → List ℕ → Bool
+steady_along host mode path = is_steady host mode (place_walk host mode (root_place host.space.table) path)
+
 -- ---- of a state
 
 -- what a descriptor is
@@ -106,15 +113,28 @@ module _ {M X : Type 0} (s : State M X) where
   link_text_at caller (Proc i (FdDir pid)) = Err EINVAL
   link_text_at caller (Proc i (Fd pid fd)) = name_or_none (base_text s pid fd)
 
-  -- where the plain kernel's walk along a host path ends, if a last link isn't followed
+  -- the plain kernel's walk along a host path in a caller's name
+  abbrev pub host_walk : ℕ → WalkMode → List ℕ → PlaceTrail
+  host_walk caller mode path = place_walk (host_around_of s caller) mode (root_place plain) path
+
+  -- where it ends, if a last link isn't followed
   abbrev pub answer_along : ℕ → List ℕ → Result PlaceTarget Errno
-  answer_along caller path = (place_walk (host_around_of s caller) LookLink (root_place plain) path).answer
+  answer_along caller path = (host_walk caller LookLink path).answer
+
+  -- a host path is steady in a mode where that walk looks up no name in the process directory
+  abbrev pub is_steady_in : ℕ → WalkMode → List ℕ → Bool
+  is_steady_in caller mode path = steady_along (host_around_of s caller) mode path
+
+  -- as a tracer looks at it
+  abbrev pub is_steady_path : ℕ → List ℕ → Bool
+  is_steady_path caller path = is_steady_in caller LookLink path
 
   abbrev pub peeked_of : ℕ → Peeked
   peeked_of caller = record {
     kind = λ path. kind_along (host_around_of s caller) path;
     link_text = λ path. read_of (link_text_at caller) (answer_along caller path);
     head = λ path n. read_of (head_at s.tree s.user n) (answer_along caller path);
+    steady = λ path. is_steady_path caller path;
     base_kind = λ pid fd. kind_of_base (opened pid fd s);
     base_name = base_name s;
     cwd_name = cwd_name s;

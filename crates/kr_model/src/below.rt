@@ -1,10 +1,13 @@
 //! What those above name of the crates below.
 
+pub use kr_calls::below::pr_base::limits::DESCRIPTORS;
 pub use kr_calls::below::pr_base::{Bytes, NoMemory};
 pub use kr_calls::below::rv_mem::{
-    BadAddress, MapFault, PAGES_END, Regs, Rights, Room, Space, StoreFault, Use,
+    ALL_PAGES, BadAddress, MapFault, PAGES_END, Regs, Rights, Room, Space, StoreFault, Use,
 };
-pub use kr_calls::{CallFault, PathArg, Request, Stat, decode, dirent_bytes, path_of, stat_bytes};
+pub use kr_calls::{
+    CallFault, PathArg, Request, Stat, decode, dirent_bytes, has_path, path_of, stat_bytes,
+};
 pub use kr_files::below::kr_tree::laws::trees_are_kept;
 pub use kr_files::below::kr_tree::{
     Host, Ino, Kind, Meta, Node, Place, ProcAt, ROOT, Right, Tree, TreeRefusal, User,

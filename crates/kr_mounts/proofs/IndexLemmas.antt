@@ -7,7 +7,7 @@ use Rattle.std.specs.Ordering.{is_eq, ordering_then}
 use Rattle.std.specs.declared.cmp.Ordering.{Ordering}
 use Rattle.std.specs.declared.cmp.Ordering.TheVariants.{Less, Equal, Greater}
 use Rattle.std.specs.BTreeMap.{BTreeMap, get}
-use Rattle.std.proofs.lemmas.Bool.{false_from_ne_true, eqb-true, eq-eqb}
+use Rattle.std.proofs.lemmas.Bool.{and_parts, false_from_ne_true, eqb-true, eq-eqb}
 use Rattle.std.proofs.lemmas.Bool.Decides.{nat_tests}
 use Rattle.std.proofs.lemmas.List.{length-append}
 use Rattle.std.proofs.lemmas.List.Folds.{position_or_len_push}
@@ -19,6 +19,7 @@ use Rattle.pt_bind.specs.Kept.{IsNoted}
 use Rattle.kr_mounts.specs.declared.mounted.PointKey.{PointKey}
 use Rattle.kr_mounts.specs.declared.mounted.EntryKey.{EntryKey}
 use Rattle.kr_mounts.specs.Index.{has_name, name_number, point_cmp, entry_cmp, IsIndexOf, IsNameNoted, IsKeyNoted}
+use Rattle.kr_view.proofs.kr_tree.NameLemmas.{some_is}
 
 -- ---- the first row that passes a test, with one row more
 
@@ -60,9 +61,6 @@ option_or_none : {X : Type 0} (o : Option X) → option_or o None ≡ o
 option_or_none None = refl
 option_or_none (Some x) = refl
 
-some_is : (a b : ℕ) → Some a ≡ Some b → a ≡ b
-some_is a b h = ap (λ o. unwrap_or o a) h
-
 -- ---- the first mount at a name, by what more is known of its point
 
 module _ (R : List Row) (numbers : List ℕ → Option ℕ) (is : (name : List ℕ) → numbers name ≡ position (stands_at (has_name name)) R) where
@@ -84,16 +82,12 @@ module _ (R : List Row) (numbers : List ℕ → Option ℕ) (is : (name : List �
 
 module _ {K X : Type 0} (cmp : K → K → Ordering) (key : ℕ → X → K) (same : X → X → Bool) (tells : (n m : ℕ) (x y : X) → is_eq (cmp (key n x) (key m y)) ≡ (n == m) && same x y)
     (at : X → List ℕ → Point → Bool) (part : Point → X) (tests : (x : X) (name : List ℕ) (p : Point) → at x name p ≡ same (part p) x && bytes_eq p.name name) where
-  both : (a b : Bool) → (a && b) ≡ true → b ≡ true
-  both true b h = h
-  both false b h = absurd cc
-
   has_its_name : (x : X) (name : List ℕ) (r : Row) → stands_at (at x name) r ≡ true → stands_at (has_name name) r ≡ true
   has_its_name x name r h = go r.point h
     where
       go : (o : Option Point) → option_map_or (at x name) o false ≡ true → option_map_or (has_name name) o false ≡ true
       go None h = absurd cc
-      go (Some p) h = both (same (part p) x) (bytes_eq p.name name) (sym (tests x name p) ∙ h)
+      go (Some p) h = (and_parts (same (part p) x) (bytes_eq p.name name) (sym (tests x name p) ∙ h)).1
 
   module _ {Z : Type 0} (R : List Row) (r : Row) (p : Point) (here : r.point ≡ Some p) (old new : BTreeMap (Vec ℕ Z) ℕ) (n : ℕ) (is : (name : List ℕ) → name_number old name ≡ position (stands_at (has_name name)) R)
       (noted : IsNameNoted old p.name (length R) new n) (m w : BTreeMap K ℕ) (kept : IsKeyNoted cmp m (key n (part p)) (length R) w)

@@ -3,7 +3,7 @@ use Rattle.std.proofs.Common.{◌≡◌, ◌≢◌, ◌≤◌, ◌<◌, ◌⊎�
 use Rattle.std.specs.Prelude.{position}
 use Rattle.std.specs.Str.{bytes_eq}
 use Rattle.std.specs.Option.{option_map, option_map_or, option_and_then, option_or}
-use Rattle.std.proofs.lemmas.Bool.{eq-eqb, eqb-true}
+use Rattle.std.proofs.lemmas.Bool.{and_parts, eq-eqb, eqb-true}
 use Rattle.std.proofs.lemmas.List.{append_cancel_right}
 use Rattle.std.proofs.lemmas.List.Elements.{All-cons, All-nil}
 use Rattle.std.proofs.lemmas.Slice.Eq.{bytes_eq-Decides}
@@ -44,17 +44,13 @@ get_any (z ∷ xs) x (suc k) y h = elim (get_any xs x k y h) [ inl e ↦ inl e |
 
 -- ---- points
 
-both : (a b : Bool) → (a && b) ≡ true → (a ≡ true) × (b ≡ true)
-both true b h = (refl, h)
-both false b h = absurd cc
-
 abbrev pub point_at : ℕ → ℕ → List ℕ → Point
 point_at m d name = record { mount = m; dir = d; name = name }
 
 point_is : (m d : ℕ) (name : List ℕ) (p : Point) → is_point m d name p ≡ true → p ≡ point_at m d name
 point_is m d name p h =
-    let one = both (nat_eq p.mount m) (is_name_at d name p) h in
-    let two = both (nat_eq p.dir d) (bytes_eq p.name name) one.1 in
+    let one = and_parts (nat_eq p.mount m) (is_name_at d name p) h in
+    let two = and_parts (nat_eq p.dir d) (bytes_eq p.name name) one.1 in
     let mount = eqb-true p.mount m one.0 in
     let dir = eqb-true p.dir d two.0 in
     let called = (bytes_eq-Decides p.name name).0 two.1 in

@@ -3,7 +3,7 @@
 use pt_bind::below::pr_base::NoMemory;
 
 /// Why a binding is refused.
-#[derive(Clone, Copy, Debug, PartialEq, Eq)]
+#[derive(Clone, Copy)]
 pub enum BindWhy {
     /// The source isn't there, or may not be reached.
     NoSource = 1,
@@ -20,7 +20,7 @@ pub enum BindWhy {
 }
 
 /// Why bindings aren't settled: the first that is refused, by its index, and why; or want of memory.
-#[derive(Clone, Copy, Debug, PartialEq, Eq)]
+#[derive(Clone, Copy)]
 pub enum BindFault {
     Bad { index: u32, why: BindWhy },
     NoMemory,

@@ -14,11 +14,12 @@ use crate::fault::BindWhy;
 use crate::text::{push_name, without_last};
 use kr_view::below::kr_tree::laws::trees_are_kept;
 use kr_view::below::kr_tree::{Ino, Right, Tree, User};
+use pt_bind::below::pr_base::limits::MOST_LINKS;
 use pt_bind::below::pr_base::{Bytes, NoMemory, components, is_walked};
 use std::alloc::Global;
 
 /// Why a mount doesn't come about: the binding is refused, or memory ran out.
-#[derive(Clone, Copy, Debug, PartialEq, Eq)]
+#[derive(Clone, Copy)]
 pub(crate) enum Stop {
     Bad(BindWhy),
     NoMemory,
@@ -80,9 +81,6 @@ enum Step {
     /// It ends at a text.
     Ends(Bytes),
 }
-
-/// How many links a walk follows at most.
-const MOST_LINKS: u32 = 40;
 
 /// The guest's root alone, and whether a last link is kept.
 #[derive(Clone, Copy)]

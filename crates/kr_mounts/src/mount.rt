@@ -6,7 +6,7 @@ use pt_bind::below::pr_base::{Bound, Bytes, NoMemory};
 use std::alloc::Global;
 
 /// A mount point: a name in a directory of the mount in which it stands.
-#[derive(Debug, Drop)]
+#[derive(Drop)]
 pub struct MountPoint {
     /// The number of that mount.
     pub mount: usize,
@@ -17,7 +17,7 @@ pub struct MountPoint {
 /// A mount as it was settled: its texts, its source with the host directory and name at which that was found,
 /// whether the source is a directory, and its mount point, which the root's mount hasn't. A source that is the
 /// host's `/` has directory 0 and an empty name.
-#[derive(Debug, Drop)]
+#[derive(Drop)]
 pub struct Mount {
     pub text: Bound,
     pub source: Ino,

@@ -16,7 +16,7 @@ use std::collections::BTreeMap;
 use std::marker::Model;
 
 /// A mount, by its number: its place in the table, the root's is 0.
-#[derive(Clone, Copy, Debug, PartialEq, Eq)]
+#[derive(Clone, Copy)]
 pub struct MountNumber {
     number: usize,
 }
@@ -32,15 +32,15 @@ impl MountNumber {
 
 /// Where a mount stands: a directory of a mount, and a name of it, by the number of the first mount that stands
 /// at that name, wherever this is.
-#[derive(Clone, Copy, Debug, PartialEq, Eq, PartialOrd, Ord)]
+#[derive(Clone, Copy, PartialEq, Eq, PartialOrd, Ord)]
 struct PointKey {
     mount: usize,
     dir: Ino,
     name: usize,
 }
 
-/// The same in whatever mount.
-#[derive(Clone, Copy, Debug, PartialEq, Eq, PartialOrd, Ord)]
+/// A directory in whatever mount, and a name of it, by the number of the first mount that stands at that name.
+#[derive(Clone, Copy, PartialEq, Eq, PartialOrd, Ord)]
 struct EntryKey {
     dir: Ino,
     name: usize,
@@ -306,7 +306,7 @@ fn note_point(
     Ok(())
 }
 
-/// The same in whatever mount.
+/// Gives a directory and name the number of the first mount that stands there, if it has none yet.
 fn note_entry(
     entries: &mut BTreeMap<EntryKey, usize>,
     key: EntryKey,

@@ -22,7 +22,7 @@ pub(crate) struct Located {
 }
 
 /// When a binding has its turn: by the number of its location's names, and where that is the same by its own.
-#[derive(Clone, Copy, Debug, PartialEq, Eq, PartialOrd, Ord)]
+#[derive(Clone, Copy, PartialEq, Eq, PartialOrd, Ord)]
 struct Turn {
     names: usize,
     number: usize,

@@ -71,7 +71,7 @@ impl<'a> Way<'a> {
         }
     }
 
-    /// The same by the first name and the others.
+    /// The mount point of a location that begins with the name `first`; `others` is what stands behind it.
     fn along_names(
         &self,
         tree: &mut Tree,

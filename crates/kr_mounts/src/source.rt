@@ -19,7 +19,7 @@ use std::alloc::Global;
 
 /// A source as it was found: its inode, whether it is a directory, the directory in which it stands, which of the
 /// host's `/` isn't read, and its host text.
-#[derive(Debug, Drop)]
+#[derive(Drop)]
 pub(crate) struct Found {
     pub(crate) inode: Ino,
     pub(crate) is_dir: bool,

@@ -1,27 +1,26 @@
 //! New nodes under names of directories.
-ghost use Rattle.std.specs.Prelude.{◌≡◌, ◌≢◌, ◌+◌, ◌<◌, ◌^◌, ℕ, false, IsSome};
+ghost use Rattle.std.specs.Prelude.{◌≡◌, ◌≢◌, ◌+◌, ◌<◌, ◌^◌, ℕ, false};
 ghost use Rattle.kr_seen.specs.kr_inode.Stored.{body_of_new};
 ghost use Rattle.kr_seen.specs.kr_tree.Changes.{is_too_big, next_serial};
 ghost use Rattle.kr_seen.specs.kr_model.Applied.{Mounts};
 ghost use Rattle.kr_seen.specs.kr_model.Asking.{unmasked, writable};
 ghost use Rattle.kr_seen.specs.kr_model.Known.{known};
-ghost use Rattle.kr_seen.specs.kr_model.State.{image_layout, inode_of as host_inode, process};
+ghost use Rattle.kr_seen.specs.kr_model.State.{image_layout, inode_of as host_inode};
 ghost use Rattle.kr_seen.specs.kr_model.declared.outcome.Outcome.TheVariants.{NoMemory as WantOfMemory};
 ghost use Rattle.kr_seen.specs.kr_ops.Meaning.{meaning};
-ghost use Rattle.kr_seen.specs.kr_ops.Sound.{IsServed, IsSound};
+ghost use Rattle.kr_seen.specs.kr_ops.Sound.{IsServed, IsSound, IsSoundFor};
 ghost use Rattle.kr_seen.specs.Carrying.{CarriesOut};
 ghost use Rattle.kr_names.specs.Adding.{adding, IsFreeName};
 
-use kr_seen::below::{Errno, Host, Meta, Node, Outcome, State, TreeRefusal};
+use kr_seen::below::{Errno, Host, MODES, Meta, Node, Outcome, State, TreeRefusal};
 use kr_seen::{number, refused, writable};
 
 /// The bits of a mode that there are.
-const MODE_BITS: u16 = 0o7777;
+const MODE_BITS: u16 = (MODES - 1) as u16;
 
 /// The bits of a mode that a living caller's mask lets through, of the twelve that there are.
 pub(crate) fn unmasked<T: Copy, const M: u8>(state: &State<T, M>, pid: u32, mode: u32) -> u16
-    requires sound { IsSound state.now }
-    requires lives { IsSome (process pid (meaning state.now)) }
+    requires { IsSoundFor pid state.now }
     ensures bits { result ≡ unmasked (known image_layout pid (meaning state.now)) mode }
     ensures small { result < 4096 }
 {

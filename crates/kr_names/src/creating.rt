@@ -1,13 +1,12 @@
 //! Opening what isn't there.
-ghost use Rattle.std.specs.Prelude.{◌≡◌, ◌≢◌, ◌+◌, ◌<◌, ◌^◌, ℕ, Some, IsSome};
+ghost use Rattle.std.specs.Prelude.{◌≡◌, ◌≢◌, ◌+◌, ◌<◌, ◌^◌, ℕ, Some};
 ghost use Rattle.kr_seen.specs.kr_tree.Changes.{next_serial};
 ghost use Rattle.kr_seen.specs.kr_tree.Lawful.{AreBytes};
 ghost use Rattle.kr_seen.specs.kr_model.Applied.{Mounts};
 ghost use Rattle.kr_seen.specs.kr_model.FileRows.{open_new};
-ghost use Rattle.kr_seen.specs.kr_model.State.{inode_of as host_inode, process};
+ghost use Rattle.kr_seen.specs.kr_model.State.{inode_of as host_inode};
 ghost use Rattle.kr_seen.specs.kr_model.declared.outcome.Outcome.TheVariants.{NoMemory as WantOfMemory};
-ghost use Rattle.kr_seen.specs.kr_ops.Meaning.{meaning};
-ghost use Rattle.kr_seen.specs.kr_ops.Sound.{IsOfView, IsServed, IsSound};
+ghost use Rattle.kr_seen.specs.kr_ops.Sound.{IsOfView, IsServed, IsSoundFor};
 ghost use Rattle.kr_seen.specs.Carrying.{CarriesOut};
 ghost use Rattle.kr_names.specs.Adding.{IsFreeName};
 
@@ -39,8 +38,7 @@ pub(crate) fn open_new<T: Copy, const M: u8>(
     mode: u32,
 ) -> Outcome
     requires view { IsOfView state.old }
-    requires sound { IsSound state.old }
-    requires lives { IsSome (process pid (meaning state.old)) }
+    requires caller { IsSoundFor pid state.old }
     requires free { IsFreeName state.old.tree dir name.now }
     requires numbers { state.old.tree.next + 1 < 2 ^ 32 }
     requires serials { next_serial state.old.tree (host_inode dir) + 1 < 2 ^ 64 }

@@ -12,10 +12,10 @@ ghost use Rattle.kr_seen.specs.kr_files.declared.opened.Opened.{Opened as Opened
 ghost use Rattle.kr_seen.specs.kr_model.Applied.{Mounts, in_mount};
 ghost use Rattle.kr_seen.specs.kr_model.FileRows.{has_rights, open_directory, open_file, open_found, open_host, opens_as};
 ghost use Rattle.kr_seen.specs.kr_model.Known.{known, known_node};
-ghost use Rattle.kr_seen.specs.kr_model.State.{image_layout, inode_of as host_inode, process};
+ghost use Rattle.kr_seen.specs.kr_model.State.{image_layout, inode_of as host_inode};
 ghost use Rattle.kr_seen.specs.kr_model.declared.outcome.Outcome.TheVariants.{NoMemory as WantOfMemory};
 ghost use Rattle.kr_seen.specs.kr_ops.Meaning.{meaning};
-ghost use Rattle.kr_seen.specs.kr_ops.Sound.{IsServed, IsSound};
+ghost use Rattle.kr_seen.specs.kr_ops.Sound.{IsServed, IsSoundFor};
 ghost use Rattle.kr_seen.specs.Carrying.{CarriesOut};
 ghost use Rattle.kr_seen.specs.Told.{entry_told, looked_told};
 ghost use Rattle.kr_names.specs.Opening.{entry_dir, entry_name, HasRoomLeft};
@@ -62,8 +62,7 @@ fn open_directory<T: Copy, const M: u8>(
     flags: u32,
     readable: bool,
 ) -> Outcome
-    requires sound { IsSound state.old }
-    requires lives { IsSome (process pid (meaning state.old)) }
+    requires caller { IsSoundFor pid state.old }
     requires files { state.old.files.table.last_file + 1 < 2 ^ 64 }
     requires there { IsSome (inode state.old.tree (host_inode place.host)) }
     ensures performs { (mounts : Mounts T) → mounts.found ≡ Some place.mount → CarriesOut mounts pid (λ k. open_directory k flags place.host readable) state.old state.new result }
@@ -122,8 +121,7 @@ fn open_file<T: Copy, const M: u8>(
     entry: Option<Entry<'_>>,
     flags: u32,
 ) -> Outcome
-    requires sound { IsSound state.old }
-    requires lives { IsSome (process pid (meaning state.old)) }
+    requires caller { IsSoundFor pid state.old }
     requires files { state.old.files.table.last_file + 1 < 2 ^ 64 }
     requires host { place.host ≡ Node ino }
     requires file { body_is is_file state.old.tree ino ≡ true }
@@ -171,8 +169,7 @@ fn open_node<T: Copy, const M: u8>(
     looked: Looked<'_>,
     flags: u32,
 ) -> Outcome
-    requires sound { IsSound state.old }
-    requires lives { IsSome (process pid (meaning state.old)) }
+    requires caller { IsSoundFor pid state.old }
     requires files { state.old.files.table.last_file + 1 < 2 ^ 64 }
     requires room { HasRoomLeft state.old.tree }
     ensures performs { (mounts : Mounts T) → mounts.found ≡ Some mount → CarriesOut mounts pid (λ k. open_host k flags (looked_told looked.entry) (Node ino)) state.old state.new result }
@@ -212,8 +209,7 @@ fn open_host<T: Copy, const M: u8>(
     looked: Looked<'_>,
     flags: u32,
 ) -> Outcome
-    requires sound { IsSound state.old }
-    requires lives { IsSome (process pid (meaning state.old)) }
+    requires caller { IsSoundFor pid state.old }
     requires files { state.old.files.table.last_file + 1 < 2 ^ 64 }
     requires object { IsObjectOf state.old.tree looked.host }
     requires room { HasRoomLeft state.old.tree }
@@ -243,8 +239,7 @@ pub(crate) fn open_found<T: Copy, const M: u8>(
     looked: Looked<'_>,
     flags: u32,
 ) -> Outcome
-    requires sound { IsSound state.old }
-    requires lives { IsSome (process pid (meaning state.old)) }
+    requires caller { IsSoundFor pid state.old }
     requires files { state.old.files.table.last_file + 1 < 2 ^ 64 }
     requires object { IsObjectOf state.old.tree looked.host }
     requires room { HasRoomLeft state.old.tree }

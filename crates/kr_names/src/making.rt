@@ -1,12 +1,11 @@
 //! Calls that make directories and links.
-ghost use Rattle.std.specs.Prelude.{◌≡◌, ◌≢◌, ◌+◌, ◌<◌, ◌^◌, ℕ, List, IsSome};
+ghost use Rattle.std.specs.Prelude.{◌≡◌, ◌≢◌, ◌+◌, ◌<◌, ◌^◌, ℕ, List};
 ghost use Rattle.kr_seen.specs.kr_tree.Changes.{next_serial};
 ghost use Rattle.kr_seen.specs.kr_view.View.{Row};
 ghost use Rattle.kr_seen.specs.kr_model.NameRows.{mkdirat_row, symlinkat_row};
-ghost use Rattle.kr_seen.specs.kr_model.State.{inode_of as host_inode, process};
+ghost use Rattle.kr_seen.specs.kr_model.State.{inode_of as host_inode};
 ghost use Rattle.kr_seen.specs.kr_model.declared.outcome.Outcome.TheVariants.{NoMemory as WantOfMemory};
-ghost use Rattle.kr_seen.specs.kr_ops.Meaning.{meaning};
-ghost use Rattle.kr_seen.specs.kr_ops.Sound.{IsServed, IsSound};
+ghost use Rattle.kr_seen.specs.kr_ops.Sound.{IsServed, IsSound, IsSoundFor};
 ghost use Rattle.kr_seen.specs.Performing.{PerformsAt, seen_made};
 ghost use Rattle.kr_seen.specs.Resolved.{IsFreeIn};
 
@@ -28,8 +27,7 @@ pub fn mkdirat<T: Copy, const M: u8>(
     target: &Target<T>,
     mode: u32,
 ) -> Outcome
-    requires sound { IsSound state.old }
-    requires lives { IsSome (process pid (meaning state.old)) }
+    requires caller { IsSoundFor pid state.old }
     requires free { IsFreeIn state.old.tree target.now }
     requires numbers { state.old.tree.next + 1 < 2 ^ 32 }
     requires serials { next_serial state.old.tree (host_inode target.now.dir.host) + 1 < 2 ^ 64 }

@@ -32,7 +32,7 @@ use kr_seen::{
 };
 
 /// An entry that goes from one directory to another: both, and the inode that is moved.
-#[derive(Clone, Copy, Debug)]
+#[derive(Clone, Copy)]
 pub(crate) struct Moving {
     pub(crate) dir: Ino,
     pub(crate) to: Ino,

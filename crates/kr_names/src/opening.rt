@@ -1,13 +1,11 @@
 //! The call that opens files.
-ghost use Rattle.std.specs.Prelude.{◌≡◌, ◌≢◌, ◌+◌, ◌<◌, ◌^◌, IsSome};
+ghost use Rattle.std.specs.Prelude.{◌≡◌, ◌≢◌, ◌+◌, ◌<◌, ◌^◌};
 ghost use Rattle.kr_seen.specs.kr_tree.Changes.{next_serial};
 ghost use Rattle.kr_seen.specs.kr_model.FileRows.{openat_row};
-ghost use Rattle.kr_seen.specs.kr_model.Lawful.{IsLawful};
 ghost use Rattle.kr_seen.specs.kr_model.Operation.{opened as if_opened};
-ghost use Rattle.kr_seen.specs.kr_model.State.{inode_of as host_inode, process};
+ghost use Rattle.kr_seen.specs.kr_model.State.{inode_of as host_inode};
 ghost use Rattle.kr_seen.specs.kr_model.declared.outcome.Outcome.TheVariants.{NoMemory as WantOfMemory};
-ghost use Rattle.kr_seen.specs.kr_ops.Meaning.{meaning};
-ghost use Rattle.kr_seen.specs.kr_ops.Sound.{IsServed};
+ghost use Rattle.kr_seen.specs.kr_ops.Sound.{IsLawfulFor, IsServed};
 ghost use Rattle.kr_seen.specs.Performing.{PerformsAt, seen_opened};
 ghost use Rattle.kr_seen.specs.Resolved.{IsFoundIn, IsFreeIn};
 
@@ -32,9 +30,7 @@ pub fn openat<P: Places, const M: u8>(
     flags: u32,
     mode: u32,
 ) -> Outcome
-    requires lawful { IsLawful P.number (P.mounts places.now) (meaning state.old) }
-    requires served { IsServed state.old }
-    requires lives { IsSome (process pid (meaning state.old)) }
+    requires caller { IsLawfulFor P.number (P.mounts places.now) pid state.old }
     requires found { IsFoundIn state.old.tree target.now }
     requires free { IsFreeIn state.old.tree target.now }
     requires numbers { state.old.tree.next + 1 < 2 ^ 32 }

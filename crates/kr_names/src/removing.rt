@@ -24,7 +24,7 @@ use kr_seen::{
 };
 
 /// An entry that the user may take away: its directory and its inode.
-#[derive(Clone, Copy, Debug)]
+#[derive(Clone, Copy)]
 pub(crate) struct Takable {
     pub(crate) dir: Ino,
     pub(crate) ino: Ino,

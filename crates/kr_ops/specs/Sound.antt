@@ -6,7 +6,7 @@ use Rattle.law_lawful.specs.kr_files.Files.{NamesOpenFiles, file_at}
 use Rattle.law_lawful.specs.kr_view.View.{Row}
 use Rattle.law_lawful.specs.kr_model.Known.{pages_in_all}
 use Rattle.law_lawful.specs.kr_model.Lawful.{ArePids, IsLawful}
-use Rattle.law_lawful.specs.kr_model.State.{image_layout, named}
+use Rattle.law_lawful.specs.kr_model.State.{image_layout, named, process}
 use Rattle.law_lawful.specs.kr_model.Uses.{AreUses}
 use Rattle.kr_ops.specs.declared.state.State.{State}
 use Rattle.kr_ops.specs.declared.state.Process.{Process}
@@ -36,3 +36,25 @@ module _ {T : Type 0} {M : ℕ} where
     pub table : List Row
     pub lawful : IsLawful number table (meaning s)
     pub served : IsServed s
+
+  -- ---- what calls of a process rest on: it lives, and the state is one of these
+
+  pub record IsSoundFor (pid : ℕ) (s : State T M) : Type 0 where
+    pub sound : IsSound s
+    pub lives : IsSome (process pid (meaning s))
+
+  pub record IsOfViewFor (pid : ℕ) (s : State T M) : Type 0 where
+    pub view : IsOfView s
+    pub lives : IsSome (process pid (meaning s))
+
+module _ {T : Type 0} {M : ℕ} (number : T → ℕ) (table : List Row) where
+  -- a lawful state of this view
+  pub record IsLawfulIn (s : State T M) : Type 0 where
+    pub lawful : IsLawful number table (meaning s)
+    pub served : IsServed s
+
+  -- and the process lives
+  pub record IsLawfulFor (pid : ℕ) (s : State T M) : Type 0 where
+    pub lawful : IsLawful number table (meaning s)
+    pub served : IsServed s
+    pub lives : IsSome (process pid (meaning s))

@@ -14,7 +14,7 @@ use crate::state::{EndedProcess, Process, State};
 use law_lawful::below::Opened;
 
 /// Which children wait4(2) means by its first argument.
-#[derive(Clone, Copy, Debug, PartialEq, Eq)]
+#[derive(Clone, Copy)]
 pub enum Meant {
     Any,
     One(u32),

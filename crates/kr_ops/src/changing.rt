@@ -3,11 +3,11 @@ ghost use Rattle.std.specs.Prelude.{◌≡◌, ℕ, IsSome};
 ghost use Rattle.law_lawful.specs.kr_tree.Tree.{inode};
 ghost use Rattle.law_lawful.specs.kr_model.Change.{SetBreak, SetUmask};
 ghost use Rattle.law_lawful.specs.kr_model.Lawful.{ArePids};
-ghost use Rattle.law_lawful.specs.kr_model.State.{inode_of as host_inode, process};
+ghost use Rattle.law_lawful.specs.kr_model.State.{inode_of as host_inode};
 ghost use Rattle.kr_ops.specs.Meaning.{meaning};
 ghost use Rattle.kr_ops.specs.Making.{Makes};
 ghost use Rattle.kr_ops.specs.Opening.{MovesTo};
-ghost use Rattle.kr_ops.specs.Sound.{IsServed, IsSound};
+ghost use Rattle.kr_ops.specs.Sound.{IsServed, IsSoundFor};
 
 use crate::holding::{hold, release};
 use crate::state::State;
@@ -38,8 +38,7 @@ impl<T: Copy, const M: u8> State<T, M> {
 
     /// Gives a living process another working directory.
     pub fn change_directory(&mut self, pid: u32, place: Place<T>)
-        requires sound { IsSound self.old }
-        requires lives { IsSome (process pid (meaning self.old)) }
+        requires caller { IsSoundFor pid self.old }
         requires there { IsSome (inode self.old.tree (host_inode place.host)) }
         ensures makes { MovesTo pid place self.old self.new }
         ensures served { IsServed self.new }

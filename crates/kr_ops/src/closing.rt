@@ -6,8 +6,8 @@ ghost use Rattle.kr_ops.specs.Meaning.{meaning};
 ghost use Rattle.kr_ops.specs.Making.{Makes};
 ghost use Rattle.kr_ops.specs.Sound.{IsOfView, IsServed};
 
-use crate::holding::DESCRIPTORS;
 use crate::state::State;
+use law_lawful::below::DESCRIPTORS;
 
 impl<T: Copy, const M: u8> State<T, M> {
     /// Closes each descriptor of a process.

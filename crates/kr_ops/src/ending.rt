@@ -10,13 +10,10 @@ ghost use Rattle.kr_ops.specs.Sound.{IsOfView, IsServed};
 
 use crate::holding::release;
 use crate::state::{EndedProcess, State};
-use law_lawful::below::NoMemory;
+use law_lawful::below::{ALL_PAGES, NoMemory};
 
 /// The process that has the children of those that ended. It isn't among the living.
 const FIRST_PROCESS: u32 = 1;
-
-/// How many pages a memory's range of addresses has.
-const ALL_PAGES: u32 = 67_108_863;
 
 /// The parent of a process after another ended.
 fn parent_after(pid: u32, parent: u32) -> u32

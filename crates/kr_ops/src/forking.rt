@@ -1,5 +1,5 @@
 //! New processes.
-ghost use Rattle.std.specs.Prelude.{◌≡◌, ◌+◌, ◌<◌, ◌≤◌, ◌^◌, true, IsSome, IfSome, IfOk, OnOk};
+ghost use Rattle.std.specs.Prelude.{◌≡◌, ◌+◌, ◌<◌, ◌≤◌, ◌^◌, true, IfSome, IfOk, OnOk};
 ghost use Rattle.law_lawful.specs.rv_mem.Memory.{page_count};
 ghost use Rattle.law_lawful.specs.rv_mem.Pages.{allows_all};
 ghost use Rattle.law_lawful.specs.rv_mem.declared.rights.Use.TheVariants.{Write};
@@ -9,7 +9,7 @@ ghost use Rattle.law_lawful.specs.kr_model.MemoryRows.{all_pages};
 ghost use Rattle.law_lawful.specs.kr_model.State.{process};
 ghost use Rattle.kr_ops.specs.Meaning.{meaning};
 ghost use Rattle.kr_ops.specs.Making.{Makes};
-ghost use Rattle.kr_ops.specs.Sound.{IsServed, IsSound};
+ghost use Rattle.kr_ops.specs.Sound.{IsServed, IsSoundFor};
 
 use crate::holding::{hold, hold_all};
 use crate::state::{Process, State};
@@ -56,8 +56,7 @@ impl<T: Copy, const M: u8> State<T, M> {
     /// Makes a child of a living process, as clone(2) does, and gives its number, the next one. It has the parent's descriptors, working
     /// directory, executable, break and umask, and a copy of its memory, in which its number is written at `told_at`.
     pub fn fork(&mut self, pid: u32, sp: u64, told_at: Option<u64>) -> Result<u32, NoMemory>
-        requires sound { IsSound self.old }
-        requires lives { IsSome (process pid (meaning self.old)) }
+        requires caller { IsSoundFor pid self.old }
         requires numbers { self.old.next_pid + 1 < 2 ^ 32 }
         requires room { IfSome (process pid (meaning self.old)) (λ p. self.old.room + page_count p.image.memory.pages ≤ all_pages) }
         requires told { IfSome (process pid (meaning self.old)) (λ p. IfSome told_at (λ a. allows_all p.image.memory.pages a 4 Write ≡ true)) }

@@ -8,10 +8,7 @@ ghost use Rattle.law_lawful.specs.kr_files.Files.{opened_at, NamesOpenFiles};
 ghost use Rattle.law_lawful.specs.kr_model.State.{inode_of as host_inode};
 ghost use Rattle.law_lawful.specs.kr_model.Applied.{held_at, held_for, released_at};
 
-use law_lawful::below::{Descs, Files, Host, Ino, Place, Tree};
-
-/// How many descriptors a process may have.
-pub(crate) const DESCRIPTORS: u32 = 1024;
+use law_lawful::below::{DESCRIPTORS, Descs, Files, Host, Ino, Place, Tree};
 
 /// The inode of an object of the host; what stands in the process directory has that directory's.
 pub(crate) fn inode_of(host: Host) -> Ino

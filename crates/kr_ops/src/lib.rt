@@ -2,13 +2,14 @@
 //!
 //! What is proved, with the clause or the law that carries it:
 //!
-//! The state of a kernel in code, and the 30 changes. The calls stand in crates above it.
+//! The state of a kernel in code, and the 30 changes but one: the image of a new program is put in where it is loaded (kr_execve). The calls
+//! stand in crates above it.
 //!
 //! `State` means a state of kr_model (`meaning`). Each change makes the change of the definition on what a state means: of the console
 //! (`take_input`, `write_out`, `write_err`), of the tree (`add_node`, `link_node`, `remove_name`, `move_name`, `set_mode`, `set_owner`,
 //! `set_size`, `write_file`), of descriptors (`open`, `copy`, `copy_onto`, `close`, `set_cloexec`, `seek`, `set_append`, `close_on_exec`), of
 //! pipes (`make_pipe`, `take_from_pipe`, `put_into_pipe`), of memory (`map_pages`, `unmap_pages`, `protect_pages`, `set_break`), and of processes
-//! (`set_umask`, `change_directory`, `replace_executable`, `replace_image`, `fork`, `end`, `reap`). The clauses are `Makes`, and `Opens`,
+//! (`set_umask`, `change_directory`, `replace_executable`, `fork`, `end`, `reap`). The clauses are `Makes`, and `Opens`,
 //! `MovesTo` and `Executes` where a change names a mount.
 //!
 //! A refusal comes exactly at the limits of the tree and at 1,024 descriptors, and leaves what the state means as it was (`err`, `full`, `when`,

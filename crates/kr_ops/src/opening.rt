@@ -3,11 +3,11 @@ ghost use Rattle.std.specs.Prelude.{◌≡◌, ◌≢◌, ◌↔◌, ◌+◌, �
 ghost use Rattle.law_lawful.specs.kr_tree.Tree.{inode};
 ghost use Rattle.law_lawful.specs.kr_files.Opened.{is_no_end};
 ghost use Rattle.law_lawful.specs.kr_model.Change.{CopyDescriptor, MakePipe};
-ghost use Rattle.law_lawful.specs.kr_model.State.{inode_of as host_inode, named, process};
+ghost use Rattle.law_lawful.specs.kr_model.State.{inode_of as host_inode, named};
 ghost use Rattle.kr_ops.specs.Meaning.{meaning};
 ghost use Rattle.kr_ops.specs.Making.{IsAsBefore, Makes};
 ghost use Rattle.kr_ops.specs.Opening.{lowest_of, pair_of, takes_pipe_of, Opens};
-ghost use Rattle.kr_ops.specs.Sound.{IsServed, IsSound};
+ghost use Rattle.kr_ops.specs.Sound.{IsServed, IsSound, IsSoundFor};
 
 use crate::holding::{hold, release};
 use crate::state::State;
@@ -16,8 +16,7 @@ use law_lawful::below::{FilesRefusal, NoMemory, Opened};
 impl<T: Copy, const M: u8> State<T, M> {
     /// Opens what is no end of a pipe under the lowest free descriptor of a living process; Full exactly where none is free.
     pub fn open(&mut self, pid: u32, opened: Opened<T>, cloexec: bool) -> Result<u32, FilesRefusal>
-        requires sound { IsSound self.old }
-        requires lives { IsSome (process pid (meaning self.old)) }
+        requires caller { IsSoundFor pid self.old }
         requires no_end { IsTrue (is_no_end opened.what) }
         requires numbers { self.old.files.table.last_file + 1 < 2 ^ 64 }
         requires there { IfSome opened.place (λ p. IsSome (inode self.old.tree (host_inode p.host))) }
@@ -84,8 +83,7 @@ impl<T: Copy, const M: u8> State<T, M> {
     /// Makes a pipe, and opens its ends under the two lowest free descriptors of a living process, the reader first; Full exactly
     /// where fewer are free, or there are as many pipes as there may be.
     pub fn make_pipe(&mut self, pid: u32, cloexec: bool) -> Result<(u32, u32), FilesRefusal>
-        requires sound { IsSound self.old }
-        requires lives { IsSome (process pid (meaning self.old)) }
+        requires caller { IsSoundFor pid self.old }
         requires files { self.old.files.table.last_file + 2 < 2 ^ 64 }
         requires pipes { self.old.files.table.last_pipe + 1 < 2 ^ 32 }
         ensures full { (result ≡ Err FilesRefusal.Full) ↔ (takes_pipe_of pid (meaning self.old) ≡ false) }

@@ -1,6 +1,6 @@
 //! Changes of the pages of a process.
 ghost use Rattle.law_lawful.specs.pr_base.Page.{page_size};
-ghost use Rattle.std.specs.Prelude.{◌≡◌, ◌↔◌, ◌+◌, ◌*◌, ◌/◌, ◌%◌, ◌≤◌, ℕ, IsOk, IsSome, IsTrue, IfSome, IsErrOf, OnOk, OnErr};
+ghost use Rattle.std.specs.Prelude.{◌≡◌, ◌↔◌, ◌+◌, ◌*◌, ◌/◌, ◌%◌, ◌≤◌, ℕ, IsOk, IsTrue, IfSome, IsErrOf, OnOk, OnErr};
 ghost use Rattle.law_lawful.specs.rv_mem.Memory.{passes_limit};
 ghost use Rattle.law_lawful.specs.rv_mem.Pages.{has_pages, mapped};
 ghost use Rattle.law_lawful.specs.kr_model.Change.{ChangePages, MapPages, ProtectPages, UnmapPages};
@@ -8,7 +8,7 @@ ghost use Rattle.law_lawful.specs.kr_model.Known.{pages_in_all};
 ghost use Rattle.law_lawful.specs.kr_model.State.{image_layout, process};
 ghost use Rattle.kr_ops.specs.Meaning.{meaning};
 ghost use Rattle.kr_ops.specs.Making.{Makes};
-ghost use Rattle.kr_ops.specs.Sound.{IsServed, IsSound};
+ghost use Rattle.kr_ops.specs.Sound.{IsServed, IsSound, IsSoundFor};
 
 use crate::state::State;
 use law_lawful::below::{BadAddress, MapFault, PAGES_END, Rights};
@@ -23,8 +23,7 @@ impl<T: Copy, const M: u8> State<T, M> {
         pages: u32,
         rights: Rights,
     ) -> Result<(), MapFault>
-        requires sound { IsSound self.old }
-        requires lives { IsSome (process pid (meaning self.old)) }
+        requires caller { IsSoundFor pid self.old }
         requires aligned { at % page_size ≡ 0 }
         requires below { at + page_size * pages ≤ PAGES_END }
         ensures full { let all = pages_in_all image_layout (meaning self.old).living in
@@ -61,8 +60,7 @@ impl<T: Copy, const M: u8> State<T, M> {
         pages: u32,
         rights: Rights,
     ) -> Result<(), BadAddress>
-        requires sound { IsSound self.old }
-        requires lives { IsSome (process pid (meaning self.old)) }
+        requires caller { IsSoundFor pid self.old }
         requires aligned { at % page_size ≡ 0 }
         requires below { at + page_size * pages ≤ PAGES_END }
         ensures when { IfSome (process pid (meaning self.old)) (λ p. IsOk result ↔ IsTrue (has_pages p.image.memory.pages (at / page_size) pages)) }

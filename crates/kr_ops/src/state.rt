@@ -24,7 +24,7 @@ pub struct Process<T, const M: u8> {
 }
 
 /// A process that ended and wasn't waited for.
-#[derive(Clone, Copy, Debug, PartialEq, Eq)]
+#[derive(Clone, Copy)]
 pub struct EndedProcess {
     pub pid: u32,
     pub parent: u32,

@@ -1,19 +1,26 @@
 -- A call with its walks: what is asked of a state between calls, and what a call makes of it.
-use Rattle.std.specs.Prelude.{◌≡◌, ◌≢◌, ◌<◌, ◌^◌, ℕ, List}
+use Rattle.std.specs.Prelude.{◌≡◌, ◌≢◌, ◌<◌, ◌^◌, ℕ, List, IsSome}
 use Rattle.std.specs.Option.{option_map}
 use Rattle.law_allowed.specs.kr_calls.declared.request.Request.{Request}
 use Rattle.law_allowed.specs.kr_view.View.{Row}
 use Rattle.law_allowed.specs.kr_model.Applied.{Mounts}
 use Rattle.law_allowed.specs.kr_model.Operation.{operation}
+use Rattle.law_allowed.specs.kr_model.State.{process}
 use Rattle.law_allowed.specs.kr_model.Walks.{targets_of, seen}
 use Rattle.law_allowed.specs.kr_model.declared.outcome.Outcome.{Outcome}
-use Rattle.law_allowed.specs.Told.{mounts_walked}
+use Rattle.law_allowed.specs.Calls.{HasTextPaths, IsGivable}
+use Rattle.law_allowed.specs.Told.{SourcesAreNamed, mounts_walked}
 use Rattle.kr_seen.specs.kr_ops.declared.state.State.{State}
 use Rattle.kr_seen.specs.kr_ops.Meaning.{meaning}
 use Rattle.kr_seen.specs.kr_ops.Sound.{IsServed}
 use Rattle.kr_seen.specs.Numbered.{state_numbered}
 use Rattle.kr_seen.specs.Carrying.{IsCarriedOut}
 use Rattle.kr_perform.specs.Lawful.{LastsLawful}
+
+-- a request whose arguments can be given, and whose paths are texts
+pub record CanBeMade (request : Request) : Type 0 where
+  pub given : IsGivable request
+  pub paths : HasTextPaths request
 
 -- mounts by their numbers in a view
 abbrev pub mounts_numbered : {T : Type 0} → (T → ℕ) → Mounts T → Mounts ℕ
@@ -30,6 +37,12 @@ module _ {T : Type 0} {M : ℕ} (number : T → ℕ) (table : List Row) where
     pub calls : ℕ
     pub few : calls < 2 ^ 31
     pub runs : Runs calls s
+
+  -- one in which a process can make it
+  pub record CanCall (pid : ℕ) (s : State T M) : Type 0 where
+    pub named : SourcesAreNamed table
+    pub may : MayCall s
+    pub lives : IsSome (process pid (meaning s))
 
   -- the paths of a call were walked, and then its row was carried out, of what it is told of where they lead
   pub record IsCalled (pid : ℕ) (request : Request) (old new : State T M) (result : Outcome) : Type 0 where

@@ -1,12 +1,9 @@
 //! Calls that ask or set what a path leads to. A path that isn't walked leads nowhere: ENOENT.
-ghost use Rattle.std.specs.Prelude.{◌≢◌, ◌∷◌, ℕ, ℤ, List, IfSome, IsSome};
+ghost use Rattle.std.specs.Prelude.{◌≢◌, ◌∷◌, ℕ, ℤ, List, IfSome};
 ghost use Rattle.law_allowed.specs.kr_calls.declared.request.Request.TheVariants as call;
 ghost use Rattle.law_allowed.specs.kr_view.View.{Row};
-ghost use Rattle.law_allowed.specs.kr_model.Lawful.{IsLawful};
-ghost use Rattle.law_allowed.specs.kr_model.State.{process};
 ghost use Rattle.law_allowed.specs.kr_model.declared.outcome.Outcome.TheVariants.{NoMemory as WantOfMemory};
-ghost use Rattle.kr_seen.specs.kr_ops.Meaning.{meaning};
-ghost use Rattle.kr_seen.specs.kr_ops.Sound.{IsServed, IsSound};
+ghost use Rattle.kr_seen.specs.kr_ops.Sound.{IsLawfulFor, IsServed, IsSound, IsSoundFor};
 ghost use Rattle.kr_seen.specs.Resolved.{IsFoundIn};
 ghost use Rattle.kr_perform.specs.Operating.{OperatesAt};
 
@@ -21,8 +18,7 @@ pub fn chdir<T: Copy, const M: u8>(
     pid: u32,
     targets: &Targets<T>,
 ) -> Outcome
-    requires sound { IsSound state.old }
-    requires lives { IsSome (process pid (meaning state.old)) }
+    requires caller { IsSoundFor pid state.old }
     requires found { IfSome targets.now.first (λ t. IsFoundIn state.old.tree t) }
     ensures performs { (n : T → ℕ) (table : List Row) (path : List ℕ) → OperatesAt n table pid (call.Chdir path) targets.now.first targets.now.second state.old state.new result }
     ensures served { result ≢ WantOfMemory → IsServed state.new }
@@ -108,8 +104,7 @@ pub fn newfstatat_of_path<T: Copy, const M: u8>(
     targets: &Targets<T>,
     buf: u64,
 ) -> Outcome
-    requires sound { IsSound state.old }
-    requires lives { IsSome (process pid (meaning state.old)) }
+    requires { IsSoundFor pid state.old }
     ensures performs { (n : T → ℕ) (table : List Row) (dirfd : ℤ) (b : ℕ) (path : List ℕ) (flags : ℕ) → OperatesAt n table pid (call.Newfstatat dirfd (b ∷ path) buf flags) targets.now.first targets.now.second state.old state.new result }
     ensures served { result ≢ WantOfMemory → IsServed state.new }
 {
@@ -128,9 +123,7 @@ pub fn readlinkat<P: Places, const M: u8>(
     buf: u64,
     size: i32,
 ) -> Outcome
-    requires lawful { IsLawful P.number (P.mounts places.now) (meaning state.old) }
-    requires served { IsServed state.old }
-    requires lives { IsSome (process pid (meaning state.old)) }
+    requires { IsLawfulFor P.number (P.mounts places.now) pid state.old }
     ensures performs { (dirfd : ℤ) (path : List ℕ) → OperatesAt P.number (P.mounts places.now) pid (call.Readlinkat dirfd path buf size) targets.now.first targets.now.second state.old state.new result }
     ensures served { result ≢ WantOfMemory → IsServed state.new }
 {
@@ -151,8 +144,7 @@ pub fn fchownat<T: Copy, const M: u8>(
     uid: u32,
     gid: u32,
 ) -> Outcome
-    requires sound { IsSound state.old }
-    requires lives { IsSome (process pid (meaning state.old)) }
+    requires { IsSoundFor pid state.old }
     ensures performs { (n : T → ℕ) (table : List Row) (flags : ℕ) → OperatesAt n table pid (call.Fchownat dirfd path.now uid gid flags) targets.now.first targets.now.second state.old state.new result }
     ensures served { result ≢ WantOfMemory → IsServed state.new }
 {
@@ -172,8 +164,7 @@ pub fn newfstatat<T: Copy, const M: u8>(
     path: &[u8],
     buf: u64,
 ) -> Outcome
-    requires sound { IsSound state.old }
-    requires lives { IsSome (process pid (meaning state.old)) }
+    requires { IsSoundFor pid state.old }
     ensures performs { (n : T → ℕ) (table : List Row) (flags : ℕ) → OperatesAt n table pid (call.Newfstatat dirfd path.now buf flags) targets.now.first targets.now.second state.old state.new result }
     ensures served { result ≢ WantOfMemory → IsServed state.new }
 {

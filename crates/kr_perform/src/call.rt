@@ -1,17 +1,15 @@
 //! A call of a guest, from its paths to what it leaves.
-ghost use Rattle.std.specs.Prelude.{◌≡◌, ◌≢◌, ◌<◌, ◌^◌, ℕ, suc, Ok, Some, IsSome};
+ghost use Rattle.std.specs.Prelude.{◌≡◌, ◌≢◌, ◌<◌, ◌^◌, ℕ, suc, Ok, Some};
 ghost use Rattle.law_allowed.specs.Allowed.{HoldsBytes};
 ghost use Rattle.law_allowed.specs.kr_model.State.{Image, Process, process};
 ghost use Rattle.law_allowed.specs.kr_model.declared.outcome.Outcome.TheVariants.{NoMemory as WantOfMemory};
-ghost use Rattle.law_allowed.specs.Calls.{HasTextPaths, IsGivable};
-ghost use Rattle.law_allowed.specs.Told.{SourcesAreNamed};
 ghost use Rattle.kr_seen.specs.kr_ops.Meaning.{meaning};
 ghost use Rattle.kr_seen.specs.kr_ops.Sound.{IsSound};
 ghost use Rattle.kr_seen.specs.Numbered.{state_numbered};
 ghost use Rattle.law_allowed.specs.kr_model.Walks.{targets_of};
 ghost use Rattle.kr_seen.specs.CallWalks.{call_reach, AreTargets};
 ghost use Rattle.kr_perform.specs.Operating.{IsNoExec};
-ghost use Rattle.kr_perform.specs.Calling.{IsCalled, MayCall, Runs};
+ghost use Rattle.kr_perform.specs.Calling.{CanBeMade, CanCall, IsCalled, Runs};
 
 use crate::perform;
 use kr_seen::below::{State, lawful_states_are_sound};
@@ -31,11 +29,8 @@ pub fn carry_out<P: Places, const M: u8>(
     reach: &mut Reach,
 ) -> Outcome
     requires kind { IsNoExec request.now }
-    requires given { IsGivable request.now }
-    requires paths { HasTextPaths request.now }
-    requires named { SourcesAreNamed (P.mounts places.now) }
-    requires may { MayCall P.number (P.mounts places.now) state.old }
-    requires lives { IsSome (process pid (meaning state.old)) }
+    requires request { CanBeMade request.now }
+    requires caller { CanCall P.number (P.mounts places.now) pid state.old }
     ensures called { result ≢ WantOfMemory → IsCalled P.number (P.mounts places.now) pid request.now state.old state.new result }
     ensures reach { result ≢ WantOfMemory → reach.new ≡ call_reach (P.mounts places.now) pid (state_numbered P.number (meaning state.old)) request.now reach.old }
     ensures runs { (calls : ℕ) → calls < 2 ^ 31 → Runs P.number (P.mounts places.now) calls state.old → result ≢ WantOfMemory → Runs P.number (P.mounts places.now) (suc calls) state.new }
@@ -47,7 +42,7 @@ pub fn carry_out<P: Places, const M: u8>(
     }
 }
 
-/// The same where its paths were walked: does what its row says of where they lead. What `perform` leaves is lawful and lasts (`runs`), since
+/// Carries out a call whose paths were walked: does what its row says of where they lead. What `perform` leaves is lawful and lasts (`runs`), since
 /// all that the law of that asks for holds here (`performed_states_last`): a process's memory holds bytes, and what a call is told of
 /// targets to which its walks led over a lawful state is so.
 pub fn carry_out_along<P: Places, const M: u8>(
@@ -59,11 +54,8 @@ pub fn carry_out_along<P: Places, const M: u8>(
     targets: &Targets<P::Mount>,
 ) -> Outcome
     requires kind { IsNoExec request.now }
-    requires given { IsGivable request.now }
-    requires paths { HasTextPaths request.now }
-    requires named { SourcesAreNamed (P.mounts places.now) }
-    requires may { MayCall P.number (P.mounts places.now) state.old }
-    requires lives { IsSome (process pid (meaning state.old)) }
+    requires request { CanBeMade request.now }
+    requires caller { CanCall P.number (P.mounts places.now) pid state.old }
     requires along { AreTargets P.number (targets_of (P.mounts places.now) pid (state_numbered P.number (meaning state.old)) request.now) (Ok targets.now) }
     ensures called { result ≢ WantOfMemory → IsCalled P.number (P.mounts places.now) pid request.now state.old state.new result }
     ensures runs { (calls : ℕ) → calls < 2 ^ 31 → Runs P.number (P.mounts places.now) calls state.old → result ≢ WantOfMemory → Runs P.number (P.mounts places.now) (suc calls) state.new }
@@ -79,6 +71,7 @@ fn memory_holds_bytes<T: Copy, const M: u8>(state: &State<T, M>, pid: u32)
     ensures { (p : Process T Image) → process pid (meaning state.now) ≡ Some p → HoldsBytes p.image.memory.pages }
 {
     if let Some(k) = state.index_of(pid) {
+        // For the proof alone: what is in a memory are bytes.
         let _can = state.living[k].mem.can(0, 0, Use::Read);
     }
 }

@@ -1,10 +1,8 @@
 //! Calls without a path: those on what is open under a descriptor here, and the others where they stand.
-ghost use Rattle.std.specs.Prelude.{◌≢◌, IsSome};
-ghost use Rattle.law_allowed.specs.kr_model.State.{process};
+ghost use Rattle.std.specs.Prelude.{◌≢◌};
 ghost use Rattle.law_allowed.specs.kr_model.declared.outcome.Outcome.TheVariants.{NoMemory as WantOfMemory};
 ghost use Rattle.law_allowed.specs.Calls.{IsGivable};
-ghost use Rattle.kr_seen.specs.kr_ops.Meaning.{meaning};
-ghost use Rattle.kr_seen.specs.kr_ops.Sound.{IsOfView, IsServed};
+ghost use Rattle.kr_seen.specs.kr_ops.Sound.{IsOfViewFor, IsServed};
 ghost use Rattle.kr_perform.specs.Operating.{HasNumbers, IsAlone, OperatesAlone};
 
 use crate::processes;
@@ -30,8 +28,7 @@ pub fn perform<T: Copy, const M: u8>(
 ) -> Outcome
     requires kind { IsAlone request.now }
     requires given { IsGivable request.now }
-    requires view { IsOfView state.old }
-    requires lives { IsSome (process pid (meaning state.old)) }
+    requires caller { IsOfViewFor pid state.old }
     requires numbers { HasNumbers state.old }
     ensures performs { OperatesAlone pid request.now state.old state.new result }
     ensures served { result ≢ WantOfMemory → IsServed state.new }

@@ -1,13 +1,10 @@
 //! Calls that open, make and remove what a path leads to. A path that isn't walked leads nowhere: ENOENT.
-ghost use Rattle.std.specs.Prelude.{◌≢◌, ℕ, ℤ, List, IfSome, IsSome};
+ghost use Rattle.std.specs.Prelude.{◌≢◌, ℕ, ℤ, List, IfSome};
 ghost use Rattle.law_allowed.specs.kr_calls.declared.request.Request.TheVariants as call;
 ghost use Rattle.law_allowed.specs.kr_tree.Lawful.{IsSound as IsSoundTree};
 ghost use Rattle.law_allowed.specs.kr_view.View.{Row};
-ghost use Rattle.law_allowed.specs.kr_model.Lawful.{IsLawful};
-ghost use Rattle.law_allowed.specs.kr_model.State.{process};
 ghost use Rattle.law_allowed.specs.kr_model.declared.outcome.Outcome.TheVariants.{NoMemory as WantOfMemory};
-ghost use Rattle.kr_seen.specs.kr_ops.Meaning.{meaning};
-ghost use Rattle.kr_seen.specs.kr_ops.Sound.{IsServed, IsSound};
+ghost use Rattle.kr_seen.specs.kr_ops.Sound.{IsLawfulFor, IsServed, IsSound, IsSoundFor};
 ghost use Rattle.kr_seen.specs.Resolved.{IsEntryIn, IsFoundIn, IsFreeIn};
 ghost use Rattle.kr_perform.specs.Operating.{HasNumbers, OperatesAt};
 
@@ -24,8 +21,7 @@ pub fn mkdirat<T: Copy, const M: u8>(
     targets: &Targets<T>,
     mode: u32,
 ) -> Outcome
-    requires sound { IsSound state.old }
-    requires lives { IsSome (process pid (meaning state.old)) }
+    requires caller { IsSoundFor pid state.old }
     requires free { IfSome targets.now.first (λ t. IsFreeIn state.old.tree t) }
     requires numbers { HasNumbers state.old }
     ensures performs { (n : T → ℕ) (table : List Row) (dirfd : ℤ) (path : List ℕ) → OperatesAt n table pid (call.Mkdirat dirfd path mode) targets.now.first targets.now.second state.old state.new result }
@@ -89,9 +85,7 @@ pub fn openat<P: Places, const M: u8>(
     flags: u32,
     mode: u32,
 ) -> Outcome
-    requires lawful { IsLawful P.number (P.mounts places.now) (meaning state.old) }
-    requires served { IsServed state.old }
-    requires lives { IsSome (process pid (meaning state.old)) }
+    requires caller { IsLawfulFor P.number (P.mounts places.now) pid state.old }
     requires found { IfSome targets.now.first (λ t. IsFoundIn state.old.tree t) }
     requires free { IfSome targets.now.first (λ t. IsFreeIn state.old.tree t) }
     requires numbers { HasNumbers state.old }

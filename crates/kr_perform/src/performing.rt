@@ -1,11 +1,8 @@
 //! Any call.
-ghost use Rattle.std.specs.Prelude.{◌≢◌, IsSome};
-ghost use Rattle.law_allowed.specs.kr_model.Lawful.{IsLawful};
-ghost use Rattle.law_allowed.specs.kr_model.State.{process};
+ghost use Rattle.std.specs.Prelude.{◌≢◌};
 ghost use Rattle.law_allowed.specs.kr_model.declared.outcome.Outcome.TheVariants.{NoMemory as WantOfMemory};
 ghost use Rattle.law_allowed.specs.Calls.{IsGivable};
-ghost use Rattle.kr_seen.specs.kr_ops.Meaning.{meaning};
-ghost use Rattle.kr_seen.specs.kr_ops.Sound.{IsServed};
+ghost use Rattle.kr_seen.specs.kr_ops.Sound.{IsLawfulFor, IsServed};
 ghost use Rattle.kr_perform.specs.Resolving.{AreResolved};
 ghost use Rattle.kr_perform.specs.Operating.{HasNumbers, IsNoExec, OperatesAt};
 
@@ -32,9 +29,7 @@ pub fn perform<P: Places, const M: u8>(
 ) -> Outcome
     requires kind { IsNoExec request.now }
     requires given { IsGivable request.now }
-    requires lawful { IsLawful P.number (P.mounts places.now) (meaning state.old) }
-    requires served { IsServed state.old }
-    requires lives { IsSome (process pid (meaning state.old)) }
+    requires caller { IsLawfulFor P.number (P.mounts places.now) pid state.old }
     requires resolved { AreResolved state.old.tree (P.mounts places.now) request.now targets.now }
     requires numbers { HasNumbers state.old }
     ensures performs { OperatesAt P.number (P.mounts places.now) pid request.now targets.now.first targets.now.second state.old state.new result }

@@ -1,9 +1,7 @@
 //! Calls on the caller, its pages and its user.
-ghost use Rattle.std.specs.Prelude.{◌≢◌, IsSome};
-ghost use Rattle.law_allowed.specs.kr_model.State.{process};
+ghost use Rattle.std.specs.Prelude.{◌≢◌};
 ghost use Rattle.law_allowed.specs.kr_model.declared.outcome.Outcome.TheVariants.{NoMemory as WantOfMemory};
-ghost use Rattle.kr_seen.specs.kr_ops.Meaning.{meaning};
-ghost use Rattle.kr_seen.specs.kr_ops.Sound.{IsOfView, IsServed};
+ghost use Rattle.kr_seen.specs.kr_ops.Sound.{IsOfViewFor, IsServed};
 ghost use Rattle.kr_perform.specs.Operating.{HasNumbers, IsOfProcess, OperatesAlone};
 
 use kr_rows::{ending, forking, identity, memory, processes, system};
@@ -17,8 +15,7 @@ pub fn perform<T: Copy, const M: u8>(
     request: &Request,
 ) -> Outcome
     requires kind { IsOfProcess request.now }
-    requires view { IsOfView state.old }
-    requires lives { IsSome (process pid (meaning state.old)) }
+    requires caller { IsOfViewFor pid state.old }
     requires numbers { HasNumbers state.old }
     ensures performs { OperatesAlone pid request.now state.old state.new result }
     ensures served { result ≢ WantOfMemory → IsServed state.new }

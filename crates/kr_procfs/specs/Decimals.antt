@@ -3,9 +3,7 @@ use Rattle.std.specs.Prelude.{◌≡◌, ℕ, ◌^◌, ◌<◌, nat_le, ◌==◌
 use Rattle.std.specs.List.{list_all}
 use Rattle.std.specs.Fmt.{decimal}
 use Rattle.std.specs.Str.Parse.{digits_value}
-
-abbrev pub is_digit : ℕ → Bool
-is_digit c = nat_le 48 c && nat_le c 57
+pub use Rattle.kr_view.specs.kr_tree.pr_base.Digits.{is_digit}
 
 -- digits without a leading zero, or the digit zero alone
 abbrev pub is_decimal : List ℕ → Bool

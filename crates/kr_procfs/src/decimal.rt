@@ -1,19 +1,8 @@
 //! Numbers as names.
 ghost use Rattle.std.specs.Prelude.{◌≡◌};
-ghost use Rattle.std.specs.List.{list_all};
-ghost use Rattle.kr_procfs.specs.Decimals.{is_digit, is_decimal, number_named};
+ghost use Rattle.kr_procfs.specs.Decimals.{is_decimal, number_named};
 
-fn is_digit(byte: u8) -> bool
-    ensures { result ≡ is_digit byte }
-{
-    byte.is_ascii_digit()
-}
-
-fn are_digits(name: &[u8]) -> bool
-    ensures { result ≡ list_all is_digit name.now }
-{
-    name.iter().all(|byte| is_digit(*byte))
-}
+use kr_view::below::pr_base::are_digits;
 
 /// Whether this is a number in decimal, without sign and leading zeros.
 fn is_decimal(name: &[u8]) -> bool

@@ -4,6 +4,7 @@ use Rattle.std.proofs.Common.{◌≡◌, ℕ, zero, suc, ◌+◌, ◌-◌, ◌*�
 use Rattle.std.specs.Prelude.{nat_lt, if◌then◌else◌}
 use Rattle.std.specs.Option.{is_some, option_map_or}
 use Rattle.std.proofs.lemmas.Bool.Decides.{nat_tests}
+use Rattle.std.proofs.lemmas.Bool.{or_parts}
 use Rattle.kr_seen.specs.rv_mem.Layout.{Layout, layout_of, has_page}
 use Rattle.kr_seen.specs.rv_mem.Memory.{passes_limit, room_after}
 use Rattle.kr_seen.specs.rv_mem.Pages.{Pages, has_pages, mapped, protected, unmapped, IsPlaced}
@@ -13,7 +14,6 @@ use Rattle.kr_seen.proofs.rv_mem.LayoutLemmas.{contains_layout, layouts_follow}
 use Rattle.kr_seen.proofs.rv_mem.TableLemmas.{has_pages-zero, has_pages_refused, mapped-zero}
 use Rattle.kr_seen.proofs.pr_base.MapLemmas.{remove-none}
 use Rattle.kr_seen.proofs.law_lawful.SumLemmas.{passed-test}
-use Rattle.kr_seen.proofs.law_lawful.OwnChangeLemmas.{neither}
 use Rattle.kr_seen.proofs.law_lawful.AfterLemmas.{pids-with, some-of}
 use Rattle.kr_seen.specs.kr_model.Applied.{Mounts, applied, images, with_image, with_living}
 use Rattle.kr_seen.specs.kr_model.Change.{ChangePages, MapPages, PageChange, SetBreak}
@@ -113,7 +113,7 @@ pub none-among : (l : Layout) (first n : ℕ) → rows.has_page l first n ≡ fa
 unfolding rows.has_page rows.mapped_among
 none-among l first zero e = refl
 none-among l first (suc n) e =
-    let both = neither (map.contains_key l first) (rows.has_page l (first + 1) n) e in
+    let both = or_parts (map.contains_key l first) (rows.has_page l (first + 1) n) e in
     let here = ap one both.0 in
     let rest = none-among l (first + 1) n both.1 in
     omega arith

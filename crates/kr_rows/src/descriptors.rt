@@ -1,22 +1,20 @@
 //! Calls on descriptors.
-ghost use Rattle.std.specs.Prelude.{◌≡◌, ◌≢◌, ◌+◌, ◌<◌, ◌^◌, true, false, Some, None, nat_lt, if◌then◌else◌, IfNone, IfSome, IsSome};
+ghost use Rattle.std.specs.Prelude.{◌≡◌, ◌≢◌, ◌+◌, ◌<◌, ◌^◌, true, false, Some, None, nat_lt, if◌then◌else◌, IfNone, IfSome};
 ghost use Rattle.std.specs.Option.{option_and_then, option_map};
 ghost use Rattle.kr_seen.specs.kr_model.Asking.{descriptor_number};
 ghost use Rattle.kr_seen.specs.kr_model.DescriptorRows.{close_row, dup_row, dup3_row, ioctl_row, pipe2_row, pipe_numbers};
-ghost use Rattle.kr_seen.specs.kr_model.State.{process};
 ghost use Rattle.kr_seen.specs.kr_model.declared.outcome.Outcome.TheVariants.{NoMemory as WantOfMemory};
 ghost use Rattle.kr_seen.specs.kr_ops.Meaning.{meaning};
 ghost use Rattle.kr_seen.specs.kr_ops.Opening.{pair_of, takes_pipe_of};
-ghost use Rattle.kr_seen.specs.kr_ops.Sound.{IsServed, IsSound};
+ghost use Rattle.kr_seen.specs.kr_ops.Sound.{IsServed, IsSound, IsSoundFor};
 ghost use Rattle.kr_seen.specs.PerformedRows.{Performs};
 
 use crate::answer::{has, natural, number, open_number, refused};
 use bitflags::Flags;
-use kr_seen::below::{Errno, FilesRefusal, NoMemory, OpenFlags, Outcome, State, StoreFault};
+use kr_seen::below::{
+    DESCRIPTORS, Errno, FilesRefusal, NoMemory, OpenFlags, Outcome, State, StoreFault,
+};
 use kr_seen::caller;
-
-/// How many descriptors a process may have.
-const DESCRIPTORS: u32 = 1024;
 
 /// dup(2): EBADF of a descriptor that isn't open, EMFILE where none is free; the lowest free one.
 pub fn dup<T: Copy, const M: u8>(state: &mut State<T, M>, pid: u32, fd: i32) -> Outcome
@@ -104,8 +102,7 @@ pub fn pipe2<T: Copy, const M: u8>(
     buf: u64,
     flags: u32,
 ) -> Outcome
-    requires sound { IsSound state.old }
-    requires lives { IsSome (process pid (meaning state.old)) }
+    requires caller { IsSoundFor pid state.old }
     requires files { state.old.files.table.last_file + 2 < 2 ^ 64 }
     requires pipes { state.old.files.table.last_pipe + 1 < 2 ^ 32 }
     ensures performs { Performs pid (λ k. pipe2_row k buf flags) state.old state.new result }

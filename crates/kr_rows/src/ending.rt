@@ -1,11 +1,10 @@
 //! exit(2) and wait4(2).
-ghost use Rattle.std.specs.Prelude.{◌≡◌, ◌≢◌, ◌*◌, pos, unsigned_abs, IsSome};
+ghost use Rattle.std.specs.Prelude.{◌≡◌, ◌≢◌, ◌*◌, pos, unsigned_abs};
 ghost use Rattle.std.specs.Int.{int_rem_euclid};
 ghost use Rattle.kr_seen.specs.kr_model.ProcessRows.{exit_row, hangs_not, reap, wait4_row};
-ghost use Rattle.kr_seen.specs.kr_model.State.{process};
 ghost use Rattle.kr_seen.specs.kr_model.declared.outcome.Outcome.TheVariants.{NoMemory as WantOfMemory};
-ghost use Rattle.kr_seen.specs.kr_ops.Meaning.{ended_meaning, meaning};
-ghost use Rattle.kr_seen.specs.kr_ops.Sound.{IsOfView, IsServed, IsSound};
+ghost use Rattle.kr_seen.specs.kr_ops.Meaning.{ended_meaning};
+ghost use Rattle.kr_seen.specs.kr_ops.Sound.{IsOfView, IsServed, IsSoundFor};
 ghost use Rattle.kr_seen.specs.PerformedRows.{Performs};
 
 use crate::answer::{both, number, refused};
@@ -46,8 +45,7 @@ pub fn wait4<T: Copy, const M: u8>(
     options: i32,
     usage: u64,
 ) -> Outcome
-    requires sound { IsSound state.old }
-    requires lives { IsSome (process pid (meaning state.old)) }
+    requires { IsSoundFor pid state.old }
     ensures performs { Performs pid (λ k. wait4_row k pid child status options usage) state.old state.new result }
     ensures served { result ≢ WantOfMemory → IsServed state.new }
 {
@@ -79,8 +77,7 @@ fn reap<T: Copy, const M: u8>(
     status: u64,
     usage: u64,
 ) -> Outcome
-    requires sound { IsSound state.old }
-    requires lives { IsSome (process pid (meaning state.old)) }
+    requires { IsSoundFor pid state.old }
     ensures performs { Performs pid (λ _. reap status usage (ended_meaning ended)) state.old state.new result }
     ensures served { result ≢ WantOfMemory → IsServed state.new }
 {

@@ -13,13 +13,13 @@ ghost use Rattle.kr_seen.specs.PerformedRows.{Performs};
 
 use crate::answer::{natural, number, open_number, refused};
 use bitflags::Flags;
-use kr_seen::below::{Errno, FilesRefusal, OpenFlags, Opened, Outcome, State};
+use kr_seen::below::{DESCRIPTORS, Errno, FilesRefusal, OpenFlags, Opened, Outcome, State};
 
 /// The highest descriptor that a process may have.
-const LAST_DESCRIPTOR: u64 = 1023;
+const LAST_DESCRIPTOR: u64 = DESCRIPTORS as u64 - 1;
 
 /// A command of fcntl(2), without the prefix `F_`.
-#[derive(Clone, Copy, Debug, PartialEq, Eq)]
+#[derive(Clone, Copy)]
 enum Command {
     DupFd,
     DupFdCloexec,

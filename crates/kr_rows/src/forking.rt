@@ -1,13 +1,12 @@
 //! clone(2).
-ghost use Rattle.std.specs.Prelude.{◌≡◌, ◌≢◌, ◌+◌, ◌<◌, ◌^◌, ℕ, true, IfSome, IsSome};
+ghost use Rattle.std.specs.Prelude.{◌≡◌, ◌≢◌, ◌+◌, ◌<◌, ◌^◌, ℕ, true, IfSome};
 ghost use Rattle.kr_seen.specs.rv_mem.Pages.{allows_all};
 ghost use Rattle.kr_seen.specs.rv_mem.declared.rights.Use.TheVariants.{Write};
 ghost use Rattle.kr_seen.specs.kr_model.Known.{Known};
 ghost use Rattle.kr_seen.specs.kr_model.ProcessRows.{born, clone_row, is_fork, told_born};
-ghost use Rattle.kr_seen.specs.kr_model.State.{process};
 ghost use Rattle.kr_seen.specs.kr_model.declared.outcome.Outcome.TheVariants.{NoMemory as WantOfMemory};
 ghost use Rattle.kr_seen.specs.kr_ops.Meaning.{meaning};
-ghost use Rattle.kr_seen.specs.kr_ops.Sound.{IsServed, IsSound};
+ghost use Rattle.kr_seen.specs.kr_ops.Sound.{IsServed, IsSoundFor};
 ghost use Rattle.kr_seen.specs.PerformedRows.{Performs, memory_of};
 ghost use Rattle.kr_seen.specs.Using.{CarriesOn};
 
@@ -35,8 +34,7 @@ pub fn clone<T: Copy, const M: u8>(
     sp: u64,
     ctid: u64,
 ) -> Outcome
-    requires sound { IsSound state.old }
-    requires lives { IsSome (process pid (meaning state.old)) }
+    requires caller { IsSoundFor pid state.old }
     requires numbers { state.old.next_pid + 1 < 2 ^ 32 }
     ensures performs { Performs pid (λ k. clone_row k flags sp ctid) state.old state.new result }
     ensures served { result ≢ WantOfMemory → IsServed state.new }
@@ -77,8 +75,7 @@ fn told_at<T: Copy, const M: u8>(
     flags: u64,
     ctid: u64,
 ) -> Option<u64>
-    requires sound { IsSound state.now }
-    requires lives { IsSome (process pid (meaning state.now)) }
+    requires { IsSoundFor pid state.now }
     ensures carries { (k : Known) (sp : ℕ) → CarriesOn pid (told_born k flags sp ctid) (born k sp result) state.now state.now }
     ensures allowed { IfSome result (λ at. allows_all (memory_of pid (meaning state.now)).pages at 4 Write ≡ true) }
 {

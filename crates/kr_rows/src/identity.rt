@@ -1,10 +1,8 @@
 //! Calls on the numbers of the user and its groups, as an unprivileged process has them: real, effective and saved are one.
-ghost use Rattle.std.specs.Prelude.{◌≡◌, ◌≢◌, IsSome};
+ghost use Rattle.std.specs.Prelude.{◌≡◌, ◌≢◌};
 ghost use Rattle.kr_seen.specs.kr_model.IdentityRows.{get_row, get_three_row, getgroups_row, is_kept, set_row, set_three_row, set_two_row, setgroups_row};
-ghost use Rattle.kr_seen.specs.kr_model.State.{process};
 ghost use Rattle.kr_seen.specs.kr_model.declared.outcome.Outcome.TheVariants.{NoMemory as WantOfMemory};
-ghost use Rattle.kr_seen.specs.kr_ops.Meaning.{meaning};
-ghost use Rattle.kr_seen.specs.kr_ops.Sound.{IsServed, IsSound};
+ghost use Rattle.kr_seen.specs.kr_ops.Sound.{IsServed, IsSound, IsSoundFor};
 ghost use Rattle.kr_seen.specs.PerformedRows.{Performs, unchanged};
 
 use crate::answer::{both, natural, number, refused};
@@ -158,8 +156,7 @@ pub fn getresuid<T: Copy, const M: u8>(
     effective: u64,
     saved: u64,
 ) -> Outcome
-    requires sound { IsSound state.old }
-    requires lives { IsSome (process pid (meaning state.old)) }
+    requires { IsSoundFor pid state.old }
     ensures performs { Performs pid (λ k. get_three_row k.user.uid real effective saved) state.old state.new result }
     ensures served { result ≢ WantOfMemory → IsServed state.new }
 {
@@ -175,8 +172,7 @@ pub fn getresgid<T: Copy, const M: u8>(
     effective: u64,
     saved: u64,
 ) -> Outcome
-    requires sound { IsSound state.old }
-    requires lives { IsSome (process pid (meaning state.old)) }
+    requires { IsSoundFor pid state.old }
     ensures performs { Performs pid (λ k. get_three_row k.user.gid real effective saved) state.old state.new result }
     ensures served { result ≢ WantOfMemory → IsServed state.new }
 {
@@ -193,8 +189,7 @@ fn get_three<T: Copy, const M: u8>(
     effective: u64,
     saved: u64,
 ) -> Outcome
-    requires sound { IsSound state.old }
-    requires lives { IsSome (process pid (meaning state.old)) }
+    requires { IsSoundFor pid state.old }
     ensures performs { Performs pid (λ _. get_three_row own real effective saved) state.old state.new result }
     ensures served { result ≢ WantOfMemory → IsServed state.new }
 {
@@ -227,8 +222,7 @@ pub fn getgroups<T: Copy, const M: u8>(
     size: i32,
     list: u64,
 ) -> Outcome
-    requires sound { IsSound state.old }
-    requires lives { IsSome (process pid (meaning state.old)) }
+    requires { IsSoundFor pid state.old }
     ensures performs { Performs pid (λ k. getgroups_row k size list) state.old state.new result }
     ensures served { result ≢ WantOfMemory → IsServed state.new }
 {

@@ -2,9 +2,8 @@
 //!
 //! What is proved, with the clause or the law that carries it:
 //!
-//! Calls without a path that move no bytes of files, carried out on a state of kr_ops: on descriptors (dup, dup3, close, fcntl, ioctl, lseek,
-//! pipe2), on processes (clone, exit, wait4, getpid, getppid, umask and the calls on signals), on pages (brk, mmap, munmap, mprotect), on the
-//! numbers of the user, and uname.
+//! Calls without a path that move no bytes of files, carried out on a state of kr_ops: on descriptors, on processes and their ends, on pages, on
+//! the numbers of the user, and uname. A module for each subject has a function for each call.
 //!
 //! Each answers the outcome of its row and leaves what the row's reply makes of the state (`Performs`): the caller's memory as the row left it,
 //! and then the reply's changes. After want of memory nothing is promised. What the code keeps beside a state's meaning stays kept (`served`).

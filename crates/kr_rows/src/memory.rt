@@ -1,11 +1,11 @@
 //! Calls on the caller's pages.
-ghost use Rattle.std.specs.Prelude.{◌≡◌, ◌≢◌, ◌+◌, ◌-◌, ◌<◌, ◌≤◌, ◌^◌, min, pos, IfSome, IsSome};
+ghost use Rattle.std.specs.Prelude.{◌≡◌, ◌≢◌, ◌+◌, ◌-◌, ◌<◌, ◌≤◌, ◌^◌, min, pos, IfSome};
 ghost use Rattle.kr_seen.specs.rv_mem.Pages.{IsPlaced};
 ghost use Rattle.kr_seen.specs.kr_model.MemoryRows.{brk_row, map_at, map_fixed, map_free, mmap_row, mprotect_row, munmap_row, page_count, rights_of};
 ghost use Rattle.kr_seen.specs.kr_model.State.{process};
 ghost use Rattle.kr_seen.specs.kr_model.declared.outcome.Outcome.TheVariants.{Answer, NoMemory as WantOfMemory};
 ghost use Rattle.kr_seen.specs.kr_ops.Meaning.{meaning};
-ghost use Rattle.kr_seen.specs.kr_ops.Sound.{IsServed, IsSound};
+ghost use Rattle.kr_seen.specs.kr_ops.Sound.{IsServed, IsSoundFor};
 ghost use Rattle.kr_seen.specs.PerformedRows.{Performs};
 
 use crate::answer::{number, refused};
@@ -14,7 +14,7 @@ use kr_seen::below::{
 };
 
 /// The number of the page behind the last one that a process may have.
-const END_PAGE: u64 = 67_108_863;
+const END_PAGE: u64 = PAGES_END / PAGE_SIZE;
 
 /// Where maps may lie, by the numbers of their pages, and from where on those do that aren't given a place.
 const LOWEST_PAGE: u64 = 0x10;
@@ -71,14 +71,14 @@ fn within<const M: u8>(mem: &Space<M>, first: u64, count: u64) -> u32
     ensures count { result ≡ min count (67108863 - first) }
     ensures placed { IsPlaced mem.now.pages }
 {
+    // For the proof alone: pages lie where a memory can have them.
     let _can = mem.can(0, 0, Use::Read);
     count.min(END_PAGE.saturating_sub(first)) as u32
 }
 
 /// munmap(2): those pages of the range that are there.
 pub fn munmap<T: Copy, const M: u8>(state: &mut State<T, M>, pid: u32, a: u64, len: u64) -> Outcome
-    requires sound { IsSound state.old }
-    requires lives { IsSome (process pid (meaning state.old)) }
+    requires { IsSoundFor pid state.old }
     ensures performs { Performs pid (λ k. munmap_row a len) state.old state.new result }
     ensures served { IsServed state.new }
 {
@@ -100,8 +100,7 @@ pub fn mprotect<T: Copy, const M: u8>(
     len: u64,
     prot: u64,
 ) -> Outcome
-    requires sound { IsSound state.old }
-    requires lives { IsSome (process pid (meaning state.old)) }
+    requires { IsSoundFor pid state.old }
     ensures performs { Performs pid (λ k. mprotect_row k a len prot) state.old state.new result }
     ensures served { IsServed state.new }
 {
@@ -124,8 +123,7 @@ pub fn mprotect<T: Copy, const M: u8>(
 /// brk(2): the new end; the old one where the new one is below the start or past the last page, where a limit would be passed, and
 /// where a new page is mapped.
 pub fn brk<T: Copy, const M: u8>(state: &mut State<T, M>, pid: u32, a: u64) -> Outcome
-    requires sound { IsSound state.old }
-    requires lives { IsSome (process pid (meaning state.old)) }
+    requires caller { IsSoundFor pid state.old }
     requires breaks { IfSome (process pid (meaning state.old)) (λ p. p.brk ≤ 0x3ffffff000) }
     ensures performs { Performs pid (λ k. brk_row k a) state.old state.new result }
     ensures served { result ≢ WantOfMemory → IsServed state.new }
@@ -170,8 +168,7 @@ pub fn mmap<T: Copy, const M: u8>(
     prot: u64,
     flags: u64,
 ) -> Outcome
-    requires sound { IsSound state.old }
-    requires lives { IsSome (process pid (meaning state.old)) }
+    requires { IsSoundFor pid state.old }
     ensures performs { Performs pid (λ k. mmap_row k a len prot flags) state.old state.new result }
     ensures served { result ≢ WantOfMemory → IsServed state.new }
 {
@@ -190,8 +187,7 @@ fn map_free<T: Copy, const M: u8>(
     count: u64,
     prot: u64,
 ) -> Outcome
-    requires sound { IsSound state.old }
-    requires lives { IsSome (process pid (meaning state.old)) }
+    requires { IsSoundFor pid state.old }
     ensures performs { Performs pid (λ k. map_free k count prot) state.old state.new result }
     ensures served { result ≢ WantOfMemory → IsServed state.new }
 {
@@ -217,8 +213,7 @@ fn map_fixed<T: Copy, const M: u8>(
     count: u64,
     prot: u64,
 ) -> Outcome
-    requires sound { IsSound state.old }
-    requires lives { IsSome (process pid (meaning state.old)) }
+    requires caller { IsSoundFor pid state.old }
     requires fits { first + count < 2 ^ 64 }
     ensures performs { Performs pid (λ k. map_fixed k first count prot) state.old state.new result }
     ensures served { result ≢ WantOfMemory → IsServed state.new }
@@ -240,8 +235,7 @@ fn map_at<T: Copy, const M: u8>(
     count: u32,
     prot: u64,
 ) -> Outcome
-    requires sound { IsSound state.old }
-    requires lives { IsSome (process pid (meaning state.old)) }
+    requires caller { IsSoundFor pid state.old }
     requires below { first + count ≤ 0x3f00000 }
     ensures performs { Performs pid (λ k. map_at k first count prot) state.old state.new result }
     ensures served { result ≢ WantOfMemory → IsServed state.new }

@@ -1,9 +1,7 @@
 //! Calls on processes.
-ghost use Rattle.std.specs.Prelude.{◌≡◌, IsSome};
+ghost use Rattle.std.specs.Prelude.{◌≡◌};
 ghost use Rattle.kr_seen.specs.kr_model.ProcessRows.{getppid_row, pid_row, signals_row, umask_row};
-ghost use Rattle.kr_seen.specs.kr_model.State.{process};
-ghost use Rattle.kr_seen.specs.kr_ops.Meaning.{meaning};
-ghost use Rattle.kr_seen.specs.kr_ops.Sound.{IsServed, IsSound};
+ghost use Rattle.kr_seen.specs.kr_ops.Sound.{IsServed, IsSound, IsSoundFor};
 ghost use Rattle.kr_seen.specs.PerformedRows.{Performs};
 
 use crate::answer::number;
@@ -17,6 +15,7 @@ pub fn getpid<T: Copy, const M: u8>(state: &State<T, M>, pid: u32) -> Outcome
     requires { IsSound state.now }
     ensures { Performs pid (λ k. pid_row pid) state.now state.now result }
 {
+    // For the proof alone: the clauses speak of it.
     let _state = state;
     number(pid)
 }
@@ -26,6 +25,7 @@ pub fn signals<T: Copy, const M: u8>(state: &State<T, M>, pid: u32) -> Outcome
     requires { IsSound state.now }
     ensures { Performs pid (λ k. signals_row) state.now state.now result }
 {
+    // For the proof alone: the clauses speak of it.
     let _state = state;
     let _pid = pid;
     number(0)
@@ -33,8 +33,7 @@ pub fn signals<T: Copy, const M: u8>(state: &State<T, M>, pid: u32) -> Outcome
 
 /// getppid(2).
 pub fn getppid<T: Copy, const M: u8>(state: &State<T, M>, pid: u32) -> Outcome
-    requires sound { IsSound state.now }
-    requires lives { IsSome (process pid (meaning state.now)) }
+    requires { IsSoundFor pid state.now }
     ensures { Performs pid (λ k. getppid_row k) state.now state.now result }
 {
     match state.index_of(pid) {
@@ -45,8 +44,7 @@ pub fn getppid<T: Copy, const M: u8>(state: &State<T, M>, pid: u32) -> Outcome
 
 /// umask(2): the low nine bits are kept; the old mask.
 pub fn umask<T: Copy, const M: u8>(state: &mut State<T, M>, pid: u32, mask: u32) -> Outcome
-    requires sound { IsSound state.old }
-    requires lives { IsSome (process pid (meaning state.old)) }
+    requires { IsSoundFor pid state.old }
     ensures performs { Performs pid (λ k. umask_row k mask) state.old state.new result }
     ensures served { IsServed state.new }
 {

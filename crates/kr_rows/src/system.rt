@@ -1,10 +1,8 @@
 //! uname(2): the name of the system.
-ghost use Rattle.std.specs.Prelude.{◌≡◌, ◌≢◌, ◌≤◌, ◌++◌, length, IfOk, IsSome, OnOk};
+ghost use Rattle.std.specs.Prelude.{◌≡◌, ◌≢◌, ◌≤◌, ◌++◌, length, IfOk, OnOk};
 ghost use Rattle.kr_seen.specs.kr_model.ProcessRows.{uname_bytes, uname_field, uname_row};
-ghost use Rattle.kr_seen.specs.kr_model.State.{process};
 ghost use Rattle.kr_seen.specs.kr_model.declared.outcome.Outcome.TheVariants.{NoMemory as WantOfMemory};
-ghost use Rattle.kr_seen.specs.kr_ops.Meaning.{meaning};
-ghost use Rattle.kr_seen.specs.kr_ops.Sound.{IsServed, IsSound};
+ghost use Rattle.kr_seen.specs.kr_ops.Sound.{IsServed, IsSoundFor};
 ghost use Rattle.kr_seen.specs.PerformedRows.{Performs};
 
 use kr_seen::below::{Bytes, NoMemory, Outcome, State};
@@ -16,8 +14,7 @@ const FIELD: usize = 65;
 
 /// uname(2): EFAULT.
 pub fn uname<T: Copy, const M: u8>(state: &mut State<T, M>, pid: u32, buf: u64) -> Outcome
-    requires sound { IsSound state.old }
-    requires lives { IsSome (process pid (meaning state.old)) }
+    requires { IsSoundFor pid state.old }
     ensures performs { Performs pid (λ k. uname_row buf) state.old state.new result }
     ensures served { result ≢ WantOfMemory → IsServed state.new }
 {

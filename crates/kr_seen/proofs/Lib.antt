@@ -24,3 +24,4 @@ pub mod ChangeLemmas
 pub mod StepLemmas
 pub mod PerformLemmas
 pub mod UsingLemmas
+pub mod SteadyLemmas

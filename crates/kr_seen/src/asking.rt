@@ -98,7 +98,7 @@ pub fn writable<T: Copy, const M: u8>(state: &State<T, M>, host: Host) -> Result
     }
 }
 
-/// The same of an inode.
+/// The inode of a directory in which the user may add and remove names, or why it isn't one.
 fn writable_node<T: Copy, const M: u8>(state: &State<T, M>, ino: Ino) -> Result<Ino, Errno>
     ensures row { (pid : ℕ) → IsWritable (known image_layout pid (meaning state.now)) (Node ino) result }
     ensures takes { IfOk result (λ dir. (dir ≡ ino) × (body_is takes_names state.now.tree dir ≡ true)) }

@@ -1,15 +1,14 @@
 //! The memory of the caller of a call.
-ghost use Rattle.std.specs.Prelude.{◌≡◌, ◌≢◌, ◌↔◌, Bool, false, [], length, IsErrOf, IsSome, IfOk, OnOk, OnErr};
+ghost use Rattle.std.specs.Prelude.{◌≡◌, ◌≢◌, ◌↔◌, Bool, false, [], length, IsErrOf, IfOk, OnOk, OnErr};
 ghost use Rattle.pr_base.specs.declared.errno.Errno.TheVariants.{EFAULT};
 ghost use Rattle.kr_ops.specs.rv_mem.Actions.{write_if_allowed};
 ghost use Rattle.kr_ops.specs.rv_mem.Pages.{allows_all};
 ghost use Rattle.kr_ops.specs.kr_model.ProcessRows.{null_or_writable, unless_null};
 ghost use Rattle.kr_ops.specs.kr_model.Reply.{Replying, done, refuse};
-ghost use Rattle.kr_ops.specs.kr_model.State.{process};
 ghost use Rattle.kr_ops.specs.kr_model.declared.outcome.Outcome.TheVariants.{NoMemory as WantOfMemory};
 ghost use Rattle.kr_ops.specs.Making.{IsAsBefore};
 ghost use Rattle.kr_ops.specs.Meaning.{meaning};
-ghost use Rattle.kr_ops.specs.Sound.{IsServed, IsSound};
+ghost use Rattle.kr_ops.specs.Sound.{IsServed, IsSoundFor};
 ghost use Rattle.kr_seen.specs.PerformedRows.{Performs, memory_of};
 ghost use Rattle.kr_seen.specs.Using.{CarriesOn, Reads, Writes};
 
@@ -20,7 +19,7 @@ use pr_base::{Bytes, Errno};
 use std::alloc::AllocError;
 
 /// Why bytes aren't read into memory of their own.
-#[derive(Clone, Copy, Debug, PartialEq, Eq)]
+#[derive(Clone, Copy)]
 pub enum LoadFault {
     /// A byte isn't mapped with the right to read.
     BadAddress,
@@ -46,8 +45,7 @@ pub fn may_use<T: Copy, const M: u8>(
     n: u64,
     what: Use,
 ) -> bool
-    requires sound { IsSound state.now }
-    requires lives { IsSome (process pid (meaning state.now)) }
+    requires { IsSoundFor pid state.now }
     ensures { result ≡ allows_all (memory_of pid (meaning state.now)).pages at n what }
 {
     match state.index_of(pid) {
@@ -63,8 +61,7 @@ pub fn read_into<T: Copy, const M: u8>(
     at: u64,
     into: &mut [u8],
 ) -> Result<(), BadAddress>
-    requires sound { IsSound state.old }
-    requires lives { IsSome (process pid (meaning state.old)) }
+    requires { IsSoundFor pid state.old }
     ensures ok { OnOk result (Reads pid at (length into.old) into.new state.old state.new) }
     ensures bad { OnErr result (allows_all (memory_of pid (meaning state.old)).pages at (length into.old) Use.Read ≡ false) }
     ensures err { OnErr result (IsAsBefore state.old state.new) }
@@ -82,8 +79,7 @@ pub fn read<T: Copy, const M: u8>(
     at: u64,
     n: usize,
 ) -> Result<Bytes, LoadFault>
-    requires sound { IsSound state.old }
-    requires lives { IsSome (process pid (meaning state.old)) }
+    requires { IsSoundFor pid state.old }
     ensures ok { IfOk result (λ bytes. Reads pid at n bytes state.old state.new) }
     ensures bad { IsErrOf result LoadFault.BadAddress ↔ (allows_all (memory_of pid (meaning state.old)).pages at n Use.Read ≡ false) }
     ensures err { OnErr result (IsAsBefore state.old state.new) }
@@ -105,8 +101,7 @@ pub fn write<T: Copy, const M: u8>(
     at: u64,
     bytes: &[u8],
 ) -> Result<(), StoreFault>
-    requires sound { IsSound state.old }
-    requires lives { IsSome (process pid (meaning state.old)) }
+    requires { IsSoundFor pid state.old }
     ensures ok { OnOk result (Writes pid at bytes.now state.old state.new) }
     ensures bad { IsErrOf result StoreFault.BadAddress ↔ (allows_all (memory_of pid (meaning state.old)).pages at (length bytes.now) Use.Write ≡ false) }
     ensures err { OnErr result (IsAsBefore state.old state.new) }
@@ -125,8 +120,7 @@ pub fn tell<T: Copy, const M: u8>(
     bytes: &[u8],
     answer: u32,
 ) -> Outcome
-    requires sound { IsSound state.old }
-    requires lives { IsSome (process pid (meaning state.old)) }
+    requires { IsSoundFor pid state.old }
     ensures performs { Performs pid (λ _. write_if_allowed at bytes.now (refuse EFAULT) (done answer [])) state.old state.new result }
     ensures served { result ≢ WantOfMemory → IsServed state.new }
 {
@@ -144,8 +138,7 @@ pub fn null_or_writable<T: Copy, const M: u8>(
     at: u64,
     n: u64,
 ) -> bool
-    requires sound { IsSound state.now }
-    requires lives { IsSome (process pid (meaning state.now)) }
+    requires { IsSoundFor pid state.now }
     ensures { (next : Bool → Replying) → CarriesOn pid (null_or_writable at n next) (next result) state.now state.now }
 {
     if at == 0 {
@@ -161,8 +154,7 @@ pub fn write_unless_null<T: Copy, const M: u8>(
     at: u64,
     bytes: &[u8],
 ) -> Result<(), StoreFault>
-    requires sound { IsSound state.old }
-    requires lives { IsSome (process pid (meaning state.old)) }
+    requires { IsSoundFor pid state.old }
     ensures { (next : Replying) → OnOk result (CarriesOn pid (unless_null at bytes.now next) next state.old state.new) }
 {
     if at == 0 {

@@ -58,6 +58,7 @@ fn link_named(pid: u32, name: &[u8]) -> Option<ProcAt>
 fn numbers_are_small<T, const M: u8>(state: &State<T, M>)
     ensures { state.now.next_pid < 2 ^ 32 }
 {
+    // For the proof alone: the field has 32 bits.
     let _next = state.next_pid;
 }
 

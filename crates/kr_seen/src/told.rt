@@ -4,7 +4,7 @@ use kr_ops::below::{Host, Ino};
 use pr_base::Last;
 
 /// A name in a directory.
-#[derive(Clone, Copy, Debug)]
+#[derive(Clone, Copy)]
 pub struct Entry<'a> {
     pub dir: Ino,
     pub name: &'a [u8],
@@ -12,14 +12,14 @@ pub struct Entry<'a> {
 
 /// What was found of a path that is looked up, and of what is no directory the entry that an opening remembers: of the source
 /// of a mount the one at which it was settled.
-#[derive(Clone, Copy, Debug)]
+#[derive(Clone, Copy)]
 pub struct Looked<'a> {
     pub host: Host,
     pub entry: Option<Entry<'a>>,
 }
 
 /// An entry that is there or free: its directory and name, whether a slash stands behind it, and what was found.
-#[derive(Clone, Copy, Debug)]
+#[derive(Clone, Copy)]
 pub struct Entered<'a> {
     pub dir: Host,
     pub name: &'a [u8],
@@ -28,7 +28,7 @@ pub struct Entered<'a> {
 }
 
 /// An entry to be taken away or moved.
-#[derive(Clone, Copy, Debug)]
+#[derive(Clone, Copy)]
 pub enum Taken<'a> {
     /// The path ends in no name.
     NoName(Last),
@@ -38,7 +38,7 @@ pub enum Taken<'a> {
 }
 
 /// An entry to be made.
-#[derive(Clone, Copy, Debug)]
+#[derive(Clone, Copy)]
 pub enum Made<'a> {
     /// The path ends in no name.
     NoName(Last),
@@ -52,7 +52,7 @@ pub enum Made<'a> {
 }
 
 /// A file to be opened. All but `Found` are of files that may be made.
-#[derive(Clone, Copy, Debug)]
+#[derive(Clone, Copy)]
 pub enum Opening<'a> {
     /// The path ends in no name.
     NoName(Last),
@@ -64,7 +64,7 @@ pub enum Opening<'a> {
 }
 
 /// What gets another name, and the new entry; whether both are in one mount.
-#[derive(Clone, Copy, Debug)]
+#[derive(Clone, Copy)]
 pub struct Linked<'a> {
     pub old: Looked<'a>,
     pub new: Made<'a>,
@@ -72,7 +72,7 @@ pub struct Linked<'a> {
 }
 
 /// The old entry and the new one; whether both directories are in one mount.
-#[derive(Clone, Copy, Debug)]
+#[derive(Clone, Copy)]
 pub struct Moved<'a> {
     pub old: Taken<'a>,
     pub new: Taken<'a>,

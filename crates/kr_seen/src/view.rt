@@ -5,7 +5,7 @@ ghost use Rattle.kr_ops.specs.kr_view.View.{root_place};
 ghost use Rattle.kr_ops.specs.kr_model.Lawful.{IsLawful};
 ghost use Rattle.kr_ops.specs.kr_model.ProcessDirectory.{name_text};
 ghost use Rattle.kr_ops.specs.Meaning.{meaning};
-ghost use Rattle.kr_ops.specs.Sound.{IsServed};
+ghost use Rattle.kr_ops.specs.Sound.{IsLawfulIn, IsServed};
 ghost use Rattle.kr_seen.specs.Carried.{CarriesMounts};
 ghost use Rattle.kr_seen.specs.Held.{shown_of};
 ghost use Rattle.kr_seen.specs.Shown.{space_in, target_in, texts_in};
@@ -62,8 +62,7 @@ pub fn procs<'a, P: Places, const M: u8>(
     state: &'a State<P::Mount, M>,
     root: &'a Place<P::Mount>,
 ) -> ProcView<'a, P, M>
-    requires lawful { IsLawful P.number (P.mounts places.now) (meaning state.now) }
-    requires served { IsServed state.now }
+    requires state { IsLawfulIn P.number (P.mounts places.now) state.now }
     requires rooted { numbered P.number root.now ≡ root_place (P.mounts places.now) }
     ensures table { result.table ≡ P.mounts places.now }
     ensures state { result.state ≡ state.now }
@@ -116,6 +115,7 @@ impl<'a, P: Places, const M: u8> ProcView<'a, P, M> {
         ensures served { IsServed self.now.state }
         ensures root { numbered P.number self.now.root ≡ root_place self.now.table }
     {
+        // For the proof alone: what holds of each `ProcView`.
         let _state = &self.state;
     }
 

@@ -1,15 +1,13 @@
 //! Where the paths of a call lead: each from its base, in the way that its call looks it up.
-ghost use Rattle.std.specs.Prelude.{◌≡◌, ℕ, List, Some, IsSome};
+ghost use Rattle.std.specs.Prelude.{◌≡◌, ℕ, List, Some};
 ghost use Rattle.std.specs.Option.{option_map};
 ghost use Rattle.kr_ops.specs.kr_calls.PathTable.{path_use};
 ghost use Rattle.kr_ops.specs.kr_view.View.{Row};
 ghost use Rattle.kr_ops.specs.kr_model.Applied.{cwd_of};
 ghost use Rattle.kr_ops.specs.kr_model.Asking.{descriptor_number, is_working_directory};
-ghost use Rattle.kr_ops.specs.kr_model.Lawful.{IsLawful};
-ghost use Rattle.kr_ops.specs.kr_model.State.{process};
 ghost use Rattle.kr_ops.specs.kr_model.Walks.{base_of, place_of_descriptor, target_at, targets_of};
 ghost use Rattle.kr_ops.specs.Meaning.{meaning};
-ghost use Rattle.kr_ops.specs.Sound.{IsServed, IsSound};
+ghost use Rattle.kr_ops.specs.Sound.{IsLawfulFor, IsSound, IsSoundFor};
 ghost use Rattle.kr_seen.specs.Numbered.{state_numbered};
 ghost use Rattle.kr_seen.specs.CallWalks.{call_reach, path_reach, AreTargets, IsBase, IsReachedTo, IsTarget};
 
@@ -18,11 +16,9 @@ use kr_ops::State;
 use kr_ops::below::{PathArg, Place, Places, Reach, Request, Target, WalkFault, What, path_of};
 use kr_ops::laws::lawful_states_are_sound;
 use kr_walk::resolve;
+use pr_base::limits::AT_FDCWD;
 use pr_base::{Errno, components};
 use std::alloc::Global;
-
-/// AT_FDCWD of openat(2): a relative path is taken from the working directory.
-const WORKING_DIRECTORY: i32 = -100;
 
 /// Where the paths of a call lead; `None` of a path that the call hasn't, or that is empty and stands for a descriptor.
 #[derive(Drop)]
@@ -41,9 +37,7 @@ pub fn walk_paths<P: Places, const M: u8>(
     request: &Request,
     reach: &mut Reach,
 ) -> Result<Targets<P::Mount>, WalkFault>
-    requires lawful { IsLawful P.number (P.mounts places.now) (meaning state.now) }
-    requires served { IsServed state.now }
-    requires lives { IsSome (process pid (meaning state.now)) }
+    requires { IsLawfulFor P.number (P.mounts places.now) pid state.now }
     ensures answer { AreTargets P.number (targets_of (P.mounts places.now) pid (state_numbered P.number (meaning state.now)) request.now) result }
     ensures reach { IsReachedTo (call_reach (P.mounts places.now) pid (state_numbered P.number (meaning state.now)) request.now reach.old) reach.old reach.new result }
 {
@@ -61,9 +55,7 @@ fn target_of<P: Places, const M: u8>(
     path: Option<PathArg<'_>>,
     reach: &mut Reach,
 ) -> Result<Option<Target<P::Mount>>, WalkFault>
-    requires lawful { IsLawful P.number (P.mounts places.now) (meaning state.now) }
-    requires served { IsServed state.now }
-    requires lives { IsSome (process pid (meaning state.now)) }
+    requires { IsLawfulFor P.number (P.mounts places.now) pid state.now }
     ensures answer { IsTarget P.number (target_at (P.mounts places.now) pid (state_numbered P.number (meaning state.now)) (option_map path_use path.entry)) result }
     ensures reach { IsReachedTo (path_reach (P.mounts places.now) pid (state_numbered P.number (meaning state.now)) (option_map path_use path.entry) reach.old) reach.old reach.new result }
 {
@@ -103,8 +95,7 @@ fn base_of<P: Places, const M: u8>(
     pid: u32,
     path: PathArg<'_>,
 ) -> Result<Place<P::Mount>, Errno>
-    requires sound { IsSound state.now }
-    requires lives { IsSome (process pid (meaning state.now)) }
+    requires { IsSoundFor pid state.now }
     ensures { IsBase P.number (base_of (P.mounts places.now) pid (state_numbered P.number (meaning state.now)) (path_use path.entry)) result }
 {
     if components(path.text).absolute() {
@@ -123,7 +114,7 @@ fn base_of<P: Places, const M: u8>(
 fn is_working_directory(dirfd: i32) -> bool
     ensures { result ≡ is_working_directory dirfd }
 {
-    dirfd == WORKING_DIRECTORY
+    dirfd == AT_FDCWD
 }
 
 /// The number of a descriptor, `None` exactly where it is negative.
@@ -138,8 +129,7 @@ fn descriptor_number(dirfd: i32) -> Option<u32>
 
 /// The working directory of a living process.
 fn cwd_of<T: Copy, const M: u8>(state: &State<T, M>, pid: u32) -> Place<T>
-    requires sound { IsSound state.now }
-    requires lives { IsSome (process pid (meaning state.now)) }
+    requires { IsSoundFor pid state.now }
     ensures { cwd_of pid (meaning state.now) ≡ Some result }
 {
     match state.index_of(pid) {

@@ -86,6 +86,7 @@ pub fn begin<T: Copy, const M: u8>(
         CanBegin number table state.old.tree (first_of image.entry cwd exe exe_dir exe_name) → IsLawful number table (meaning state.new)) }
     ensures served { OnOk result (IsServed state.new) }
 {
+    // For the proof alone: what holds of every memory, and how many pages it may have.
     let _kept = image.mem.can(0, 0, Use::Read);
     let _pages = image.mem.pages();
     state.living.reserve(1)?;

@@ -1,9 +1,6 @@
 //! A call of a process, to its end.
-ghost use Rattle.std.specs.Prelude.{◌≡◌, ◌<◌, ◌^◌, ℕ, suc, IfOk, IsSome, OnOk};
-ghost use Rattle.kr_perform.specs.law_allowed.Calls.{HasTextPaths, IsGivable};
-ghost use Rattle.kr_perform.specs.law_allowed.Told.{SourcesAreNamed};
-ghost use Rattle.kr_perform.specs.Calling.{MayCall, Runs};
-ghost use Rattle.kr_perform.specs.kr_model.State.{process};
+ghost use Rattle.std.specs.Prelude.{◌≡◌, ◌<◌, ◌^◌, ℕ, suc, IfOk, OnOk};
+ghost use Rattle.kr_perform.specs.Calling.{CanBeMade, CanCall, Runs};
 ghost use Rattle.kr_perform.specs.kr_ops.Meaning.{meaning};
 ghost use Rattle.kr_perform.specs.kr_seen.CallWalks.{call_reach};
 ghost use Rattle.kr_perform.specs.Operating.{IsNoExec};
@@ -17,7 +14,7 @@ use rv_cpu::below::pr_base::NoMemory;
 use std::alloc::Global;
 
 /// What became of the caller of a call.
-#[derive(Clone, Copy, Debug, PartialEq, Eq)]
+#[derive(Clone, Copy)]
 pub enum Called {
     /// It was told an answer, and goes on behind the call.
     Answered,
@@ -38,11 +35,8 @@ pub fn call<P: Places, const M: u8>(
     reach: &mut Reach,
 ) -> Result<Called, NoMemory>
     requires kind { IsNoExec request.now }
-    requires given { IsGivable request.now }
-    requires paths { HasTextPaths request.now }
-    requires named { SourcesAreNamed (P.mounts places.now) }
-    requires may { MayCall P.number (P.mounts places.now) state.old }
-    requires lives { IsSome (process pid (meaning state.old)) }
+    requires request { CanBeMade request.now }
+    requires caller { CanCall P.number (P.mounts places.now) pid state.old }
     ensures settled { IfOk result (λ called. IsSettled P.number (P.mounts places.now) pid request.now state.old state.new called) }
     ensures reach { OnOk result (reach.new ≡ call_reach (P.mounts places.now) pid (state_numbered P.number (meaning state.old)) request.now reach.old) }
     ensures runs { OnOk result ((calls : ℕ) → calls < 2 ^ 31 → Runs P.number (P.mounts places.now) calls state.old → Runs P.number (P.mounts places.now) (suc calls) state.new) }

@@ -1,8 +1,7 @@
 //! The instructions of a turn.
-ghost use Rattle.std.specs.Prelude.{ℕ, List, IfOk, IsSome, OnOk};
+ghost use Rattle.std.specs.Prelude.{ℕ, List, IfOk, OnOk};
 ghost use Rattle.kr_perform.specs.kr_model.State.{process};
-ghost use Rattle.kr_perform.specs.kr_ops.Meaning.{meaning};
-ghost use Rattle.kr_perform.specs.kr_ops.Sound.{IsSound};
+ghost use Rattle.kr_perform.specs.kr_ops.Sound.{IsSoundFor};
 ghost use Rattle.kr_perform.specs.kr_view.View.{Row};
 ghost use Rattle.kr_perform.specs.Calling.{Runs};
 ghost use Rattle.kr_steps.specs.Computing.{Computes};
@@ -19,8 +18,7 @@ pub fn compute<T: Copy, const M: u8>(
     pid: u32,
     fuel: u32,
 ) -> Result<(Event, u32), NoMemory>
-    requires sound { IsSound state.old }
-    requires lives { IsSome (process pid (meaning state.old)) }
+    requires { IsSoundFor pid state.old }
     ensures computes { IfOk result (λ end. Computes pid fuel state.old state.new end.0 end.1) }
     ensures signal { IfOk result (λ end. IsLowSignal end.0) }
     ensures runs { OnOk result ((number : T → ℕ) (table : List Row) (calls : ℕ) → Runs number table calls state.old → Runs number table calls state.new) }

@@ -1,11 +1,9 @@
 //! A process that dies of an instruction.
-ghost use Rattle.std.specs.Prelude.{ℕ, suc, List, IsSome, OnOk};
+ghost use Rattle.std.specs.Prelude.{ℕ, suc, List, OnOk};
 ghost use Rattle.kr_perform.specs.Calling.{Runs};
 ghost use Rattle.kr_perform.specs.kr_model.Change.{End};
-ghost use Rattle.kr_perform.specs.kr_model.State.{process};
 ghost use Rattle.kr_perform.specs.kr_ops.Making.{Makes};
-ghost use Rattle.kr_perform.specs.kr_ops.Meaning.{meaning};
-ghost use Rattle.kr_perform.specs.kr_ops.Sound.{IsOfView};
+ghost use Rattle.kr_perform.specs.kr_ops.Sound.{IsOfViewFor};
 ghost use Rattle.kr_perform.specs.kr_view.View.{Row};
 
 use kr_perform::below::State;
@@ -18,8 +16,7 @@ pub fn kill<T: Copy, const M: u8>(
     pid: u32,
     signal: u8,
 ) -> Result<(), NoMemory>
-    requires view { IsOfView state.old }
-    requires lives { IsSome (process pid (meaning state.old)) }
+    requires { IsOfViewFor pid state.old }
     ensures ends { OnOk result (Makes pid (End signal) state.old state.new) }
     ensures runs { OnOk result ((number : T → ℕ) (table : List Row) (calls : ℕ) → Runs number table calls state.old → Runs number table (suc calls) state.new) }
 {

@@ -10,6 +10,7 @@ ghost use Rattle.kr_perform.specs.kr_ops.Sound.{IsSound};
 ghost use Rattle.kr_steps.specs.Waiting.{child_waits, goes_on, open_waits, picked_process, read_waits, ready_processes, still_waits, write_waits};
 
 use kr_perform::below::{Meant, State, What};
+use rv_cpu::below::pr_base::limits::PIPE_BYTES;
 use rv_cpu::below::rv_mem::Regs;
 
 /// The register of a call's number.
@@ -19,7 +20,7 @@ const A7: usize = 17;
 const A0: usize = 10;
 
 /// How many bytes a pipe holds.
-const PIPE: u32 = 65_536;
+const PIPE: u32 = PIPE_BYTES as u32;
 
 /// The number of the process that is ready as the `k`-th, counted from 0 in order of their numbers; `None` exactly where there are no more
 /// than `k`. A process is ready that doesn't stay at a call that waited, or whose call need not wait any more. No memory is read for it.

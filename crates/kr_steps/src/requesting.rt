@@ -1,10 +1,9 @@
 //! The request of a call.
-ghost use Rattle.std.specs.Prelude.{ℕ, List, IfOk, IsSome};
+ghost use Rattle.std.specs.Prelude.{ℕ, List, IfOk};
 ghost use Rattle.kr_perform.specs.law_allowed.Calls.{HasTextPaths, IsGivable};
 ghost use Rattle.kr_perform.specs.Calling.{Runs};
 ghost use Rattle.kr_perform.specs.kr_model.State.{process};
-ghost use Rattle.kr_perform.specs.kr_ops.Meaning.{meaning};
-ghost use Rattle.kr_perform.specs.kr_ops.Sound.{IsSound};
+ghost use Rattle.kr_perform.specs.kr_ops.Sound.{IsSoundFor};
 ghost use Rattle.kr_steps.specs.Computing.{Requests};
 ghost use Rattle.kr_perform.specs.kr_view.View.{Row};
 
@@ -17,8 +16,7 @@ pub fn request<T: Copy, const M: u8>(
     state: &mut State<T, M>,
     pid: u32,
 ) -> Result<Request, CallFault>
-    requires sound { IsSound state.old }
-    requires lives { IsSome (process pid (meaning state.old)) }
+    requires { IsSoundFor pid state.old }
     ensures requested { Requests pid state.old state.new result }
     ensures given { IfOk result (λ r. IsGivable r) }
     ensures paths { IfOk result (λ r. HasTextPaths r) }
@@ -28,7 +26,7 @@ pub fn request<T: Copy, const M: u8>(
         unreachable!();
     };
     let process = &mut state.living[k];
-    // What is in a memory are bytes.
+    // For the proof alone: what is in a memory are bytes.
     let _can = process.mem.can(0, 0, Use::Read);
     decode(&process.regs, &mut process.mem)
 }

@@ -11,7 +11,7 @@ pub trait Stops {
     /// What it keeps, and the stopped process, before and after the first stop.
     ghost enters: { Self → Stopped → Self → Stopped → Type 0 };
 
-    /// The same of the second one.
+    /// What it keeps, and the stopped process, before and after the second stop.
     ghost exits: { Self → Stopped → Self → Stopped → Type 0 };
 
     /// What it keeps as a process makes a child.
@@ -55,11 +55,13 @@ impl Stops for Unwatched {
     ghost forgets = { λ x pid y. y ≡ x };
 
     fn entry<T: Tracee>(&mut self, t: &mut T) -> Result<(), NoMemory> {
+        // For the proof alone: the process lives.
         let _pid = t.pid();
         Ok(())
     }
 
     fn exit<T: Tracee>(&mut self, t: &mut T) -> Result<(), NoMemory> {
+        // For the proof alone: the process lives.
         let _pid = t.pid();
         Ok(())
     }

@@ -16,14 +16,12 @@ use Rattle.kr_tree.proofs.pr_base.MapLemmas.{by_key, get-insert_same, get-insert
 use Rattle.kr_text.specs.Same.{bare, bare_body}
 use Rattle.kr_text.proofs.OrderLemmas.{entries_rise}
 use Rattle.kr_text.proofs.DepthLemmas.{entry_in, named_above, has_entries, root_is_no_entry, one_standing}
+use Rattle.kr_tree.proofs.NameLemmas.{some_is}
 
 -- ---- what is named is there, and a directory has one text
 
 pub named_there : (t : Tree) → IsKept t → (text : List (List ℕ)) (i : ℕ) → named t text ≡ Some i → (x : Inode) × (inode t i ≡ Some x)
-named_there t kept [] i is = let x = passing is_directory (inode t root) (root_directory t kept.sound) in (x.0, ap (inode t) (sym (some_same is)) ∙ x.1)
-  where
-    some_same : {a b : ℕ} → Some a ≡ Some b → a ≡ b
-    some_same e = cc
+named_there t kept [] i is = let x = passing is_directory (inode t root) (root_directory t kept.sound) in (x.0, ap (inode t) (sym (some_is root i is)) ∙ x.1)
 named_there t kept (name ∷ text) i is =
     let at = named_above t name text i is in
     let e = entry_in t at.0 name i at.2 in
@@ -207,16 +205,13 @@ module _ (u : Tree) (kept : IsKept u) (dir : ℕ) (name : List ℕ) (takes : bod
         bare_kept = λ i n is. let z = node_at (inode u i) n is in
             by_key (λ q. inode u q ≡ Some z.0 → option_map bare (node v q) ≡ Some (bare n)) dir
             (λ h.
-            let same : x ≡ z.0 = same_some x z.0 (sym at.1 ∙ h) in
+            let same : x ≡ z.0 = some_is x z.0 (sym at.1 ∙ h) in
             let body : bare_body (f x).node.body ≡ bare_body x.node.body = bare_entries (λ es. es ++ e ∷ []) x.node.body in
             ap (λ o. option_map bare (option_map (λ w. w.node) o)) here
             ∙ ap (λ bb. Some (record { mode = x.node.mode; uid = x.node.uid; gid = x.node.gid; body = bb })) body
             ∙ ap (λ w. Some (bare w.node)) same ∙ ap (λ w. Some (bare w)) z.2)
             (λ q other h. ap (λ o. option_map bare (option_map (λ w. w.node) o)) (away q z.0 h other ∙ h) ∙ ap (λ w. Some (bare w)) z.2) i z.1;
       }
-    where
-      same_some : (a c : Inode) → Some a ≡ Some c → a ≡ c
-      same_some a c h = cc
 
   pub added_shows : (mode uid gid : ℕ) (b : Body) → option_map bare (node (added dir name mode uid gid b u) u.next) ≡ Some (record { mode = mode; uid = uid; gid = gid; body = bare_body b })
   added_shows mode uid gid b =
@@ -233,7 +228,7 @@ module _ (u : Tree) (kept : IsKept u) (dir : ℕ) (name : List ℕ) (takes : bod
       let g : Inode → Inode = with_names (λ n. n + 1) in
       let m : Inodes = with_inode dir f u.inodes in
       let w = passing is_file (inode u file) is_a_file in
-      let apart : dir ≢ file = (λ same. not_both x.node.body at.2 (subst (λ z. is_file z.node.body ≡ true) (same_some w.0 x (sym w.1 ∙ ap (inode u) (sym same) ∙ at.1)) w.2)) in
+      let apart : dir ≢ file = (λ same. not_both x.node.body at.2 (subst (λ z. is_file z.node.body ≡ true) (some_is w.0 x (sym w.1 ∙ ap (inode u) (sym same) ∙ at.1)) w.2)) in
       let here : inode v dir ≡ Some (f x) = get-changed_other m file g dir apart ∙ get-changed_same u.inodes dir f ∙ ap (option_map f) at.1 in
       let there : inode v file ≡ Some (g w.0) = get-changed_same m file g ∙ ap (option_map g) (get-changed_other u.inodes dir f file (λ same. apart (sym same)) ∙ w.1) in
       let away : (d : ℕ) → d ≢ dir → d ≢ file → inode v d ≡ inode u d = (λ d other another. get-changed_other m file g d another ∙ get-changed_other u.inodes dir f d other) in
@@ -252,19 +247,16 @@ module _ (u : Tree) (kept : IsKept u) (dir : ℕ) (name : List ℕ) (takes : bod
         bare_kept = λ i n is. let z = node_at (inode u i) n is in
             by_key (λ q. inode u q ≡ Some z.0 → option_map bare (node v q) ≡ Some (bare n)) dir
             (λ h.
-            let same : x ≡ z.0 = same_some x z.0 (sym at.1 ∙ h) in
+            let same : x ≡ z.0 = some_is x z.0 (sym at.1 ∙ h) in
             let body : bare_body (f x).node.body ≡ bare_body x.node.body = bare_entries (λ es. es ++ e ∷ []) x.node.body in
             ap (λ o. option_map bare (option_map (λ k. k.node) o)) here
             ∙ ap (λ bb. Some (record { mode = x.node.mode; uid = x.node.uid; gid = x.node.gid; body = bb })) body
             ∙ ap (λ k. Some (bare k.node)) same ∙ ap (λ k. Some (bare k)) z.2)
             (λ q other h. by_key (λ r. r ≢ dir → inode u r ≡ Some z.0 → option_map bare (node v r) ≡ Some (bare n)) file
-            (λ _ h2. ap (λ o. option_map bare (option_map (λ k. k.node) o)) there ∙ ap (λ k. Some (bare k.node)) (same_some w.0 z.0 (sym w.1 ∙ h2)) ∙ ap (λ k. Some (bare k)) z.2)
+            (λ _ h2. ap (λ o. option_map bare (option_map (λ k. k.node) o)) there ∙ ap (λ k. Some (bare k.node)) (some_is w.0 z.0 (sym w.1 ∙ h2)) ∙ ap (λ k. Some (bare k)) z.2)
             (λ r another o h2. ap (λ k. option_map bare (option_map (λ l. l.node) k)) (away r o another ∙ h2) ∙ ap (λ k. Some (bare k)) z.2) q other h) i z.1;
       }
     where
-      same_some : (a c : Inode) → Some a ≡ Some c → a ≡ c
-      same_some a c h = cc
-
       not_both : (b : Body) → takes_names b ≡ true → is_file b ≡ true → ⊥
       not_both (Directory es standing) one two = cc
       not_both (RegularFile bytes) one two = cc

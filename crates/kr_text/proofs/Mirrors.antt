@@ -15,6 +15,7 @@ use Rattle.kr_text.proofs.NamesLemmas.{IsNamed}
 use Rattle.kr_text.proofs.OrderedNames.{IsAmong, IsNext, among-last, among-end, among-front}
 use Rattle.kr_text.proofs.Growth.{Grows, named_there, named_kept, named_new, named_only}
 use Rattle.kr_text.proofs.DepthLemmas.{stands_in}
+use Rattle.kr_tree.proofs.NameLemmas.{some_is}
 
 pub record Mirrors (t : Tree) (earlier : List Named) (u : Tree) : Type 0 where
   pub kept : IsKept u
@@ -66,10 +67,7 @@ takes_listed (ProcessDirectory s) is some = is
 
 -- a directory that is named stands somewhere
 named_stands : (u : Tree) → IsKept u → (text : List (List ℕ)) (i : ℕ) → named u text ≡ Some i → body_is is_directory u i ≡ true → standing u i ≢ None
-named_stands u kept [] i is directory none = let root_at = kept.sound.rooted in let same : standing u root ≡ None = ap (standing u) (some_same is) ∙ none in cc
-  where
-    some_same : {a b : ℕ} → Some a ≡ Some b → a ≡ b
-    some_same e = cc
+named_stands u kept [] i is directory none = let root_at = kept.sound.rooted in let same : standing u root ≡ None = ap (standing u) (some_is root i is) ∙ none in cc
 named_stands u kept (name ∷ text) i is directory none =
     let at = named_above_of u name text i is in
     let s = (stands_in u kept at.0 name i at.1 directory).1 in

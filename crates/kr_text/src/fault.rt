@@ -4,7 +4,7 @@ use kr_tree::below::pr_base::NoMemory;
 
 /// What is wrong with a line. In a line the first of `Form`, `Number`, `Name`, `RootUser`,
 /// `NoParent`, `Twice`, `NoTarget`, `TwoElf` and `TooBig` counts.
-#[derive(Clone, Copy, Debug, PartialEq, Eq)]
+#[derive(Clone, Copy)]
 pub enum TreeWhy {
     /// The kind, the number of fields, a file's hex digits, or a last line without its newline.
     Form = 1,
@@ -31,7 +31,7 @@ pub enum TreeWhy {
 }
 
 /// Why a listing wasn't read.
-#[derive(Clone, Copy, Debug, PartialEq, Eq)]
+#[derive(Clone, Copy)]
 pub enum ListFault {
     /// The first bad line, counted from 1, and what is wrong with it. What is missing at the end is
     /// told of the line after the last.
@@ -40,7 +40,7 @@ pub enum ListFault {
 }
 
 /// Why a line wasn't read.
-#[derive(Clone, Copy, Debug, PartialEq, Eq)]
+#[derive(Clone, Copy)]
 pub(crate) enum LineFault {
     Bad(TreeWhy),
     NoMemory,

@@ -15,7 +15,7 @@ use std::alloc::Global;
 const LINK_MODE: u16 = 0o777;
 
 /// Mode, owner and group of what a line adds.
-#[derive(Clone, Copy, Debug, PartialEq, Eq)]
+#[derive(Clone, Copy)]
 pub(crate) struct Owner {
     pub(crate) mode: u16,
     pub(crate) uid: u32,
@@ -23,7 +23,7 @@ pub(crate) struct Owner {
 }
 
 /// What a line says.
-#[derive(Debug, Drop)]
+#[derive(Drop)]
 pub(crate) enum Line {
     User(User),
     Dir(Owner, Path),

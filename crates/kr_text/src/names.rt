@@ -11,7 +11,7 @@ use std::marker::Model;
 
 /// A path of any length from the root, which contracts see as the list of its names, the deepest
 /// first. That of the root has no bytes here.
-#[derive(Debug, Drop)]
+#[derive(Drop)]
 pub(crate) struct FullPath {
     below_root: Vec<u8>,
 }
@@ -61,7 +61,7 @@ impl FullPath {
 }
 
 /// A path and the inode that it names.
-#[derive(Debug, Drop)]
+#[derive(Drop)]
 pub(crate) struct Named {
     pub(crate) path: FullPath,
     pub(crate) ino: Ino,

@@ -3,12 +3,10 @@ ghost use Rattle.std.specs.Prelude.{◌≡◌, ◌≤◌, IfOk};
 ghost use Rattle.kr_text.specs.Fields.{numeral, id_of, mode_of};
 
 use crate::fault::TreeWhy;
-
-/// The largest number of a user or group.
-const LARGEST_ID: u32 = 4_294_967_294;
+use kr_tree::below::pr_base::limits::{LARGEST_ID, MODES};
 
 /// The largest mode, in octal.
-const LARGEST_MODE: u32 = 0o7777;
+const LARGEST_MODE: u32 = MODES - 1;
 
 /// The number that digits write, up to the largest.
 fn numeral(text: &[u8], radix: u32, most: u32) -> Result<u32, TreeWhy>

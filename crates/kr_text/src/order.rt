@@ -40,7 +40,7 @@ fn head_of(name: &[u8]) -> [u8; 8]
 
 /// A name of a directory and its inode. Its first bytes stand beside it, so that most names are
 /// compared without a look at where their bytes are.
-#[derive(Clone, Copy, Debug, PartialEq, Eq, PartialOrd, Ord)]
+#[derive(Clone, Copy, PartialEq, Eq, PartialOrd, Ord)]
 struct Item<'a> {
     head: [u8; 8],
     name: &'a [u8],

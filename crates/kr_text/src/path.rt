@@ -11,16 +11,17 @@ use crate::escape::unescape;
 use crate::fault::{LineFault, TreeWhy};
 use crate::pieces::Pieces;
 use hex::FromHexError;
+use kr_tree::below::pr_base::limits::PATH_MAX;
 use kr_tree::below::pr_base::{Bytes, components};
 use kr_tree::is_name;
 use std::alloc::Global;
 use std::marker::Model;
 
 /// The most bytes of a path, and of a link's text.
-const PATH_LIMIT: usize = 4095;
+const PATH_LIMIT: usize = PATH_MAX - 1;
 
 /// A path from the root, which contracts see as the list of its names, the deepest first.
-#[derive(Debug, Drop)]
+#[derive(Drop)]
 pub(crate) struct Path {
     bytes: Bytes,
 }

@@ -5,7 +5,7 @@ ghost use Rattle.kr_text.specs.Pieces.{pieces, pieces_left};
 use std::marker::Model;
 
 /// The pieces that weren't read yet.
-#[derive(Debug, Drop)]
+#[derive(Drop)]
 pub(crate) struct Pieces<'a> {
     separator: u8,
     rest: Option<&'a [u8]>,

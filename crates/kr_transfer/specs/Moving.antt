@@ -1,5 +1,5 @@
 -- Uses of all pieces of a list, and what they leave of a state.
-use Rattle.std.specs.Prelude.{◌≡◌, ℕ, Bool, true, ◌&&◌, List, [], ◌∷◌, map as map_list}
+use Rattle.std.specs.Prelude.{◌≡◌, ◌≤◌, ℕ, Bool, true, ◌&&◌, List, [], ◌∷◌, map as map_list}
 use Rattle.std.specs.Option.{option_map_or}
 use Rattle.kr_seen.specs.rv_mem.Pages.{Pages, allows_all}
 use Rattle.kr_seen.specs.rv_mem.declared.rights.Use.{Use}
@@ -14,6 +14,11 @@ use Rattle.kr_transfer.specs.declared.pieces.Piece.{Piece}
 -- the pieces of the definition
 abbrev pub told : List Piece → List model.Piece
 told pieces = map_list (λ (p : Piece). record { at = p.at; count = p.count }) pieces
+
+-- the bytes that a call asks for, no more than one call moves
+pub record IsCountOf (pieces : List Piece) (count : ℕ) : Type 0 where
+  pub asked : count ≡ model.asked (told pieces)
+  pub limited : count ≤ model.move_limit
 
 -- whether all may be used so
 abbrev pub all_allowed : Pages → Use → List model.Piece → Bool

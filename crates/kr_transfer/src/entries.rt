@@ -1,5 +1,5 @@
 //! getdents64(2).
-ghost use Rattle.std.specs.Prelude.{◌≡◌, ◌≢◌, ◌<◌, ◌≤◌, ◌∷◌, [], length, true, is_some, IfOk, IfSome, IsSome};
+ghost use Rattle.std.specs.Prelude.{◌≡◌, ◌≢◌, ◌<◌, ◌≤◌, ◌∷◌, [], length, true, is_some, IfOk, IfSome};
 ghost use Rattle.std.specs.Option.{option_map_or};
 ghost use Rattle.kr_inode.specs.pr_base.declared.errno.Errno.TheVariants.{EFAULT as Fault, ENOTDIR as NotDirectory};
 ghost use Rattle.kr_seen.specs.rv_mem.Actions.{write_if_allowed};
@@ -8,10 +8,10 @@ ghost use Rattle.kr_seen.specs.kr_model.Change.{Seek};
 ghost use Rattle.kr_seen.specs.kr_model.DirectoryRows.{behind, fitting, getdents64_row, list_host, list_rest, listed_bytes, shown_by};
 ghost use Rattle.kr_seen.specs.kr_model.Known.{known};
 ghost use Rattle.kr_seen.specs.kr_model.Reply.{done, refuse};
-ghost use Rattle.kr_seen.specs.kr_model.State.{image_layout, process};
+ghost use Rattle.kr_seen.specs.kr_model.State.{image_layout};
 ghost use Rattle.kr_seen.specs.kr_model.declared.outcome.Outcome.TheVariants.{NoMemory as WantOfMemory};
 ghost use Rattle.kr_seen.specs.kr_ops.Meaning.{meaning};
-ghost use Rattle.kr_seen.specs.kr_ops.Sound.{IsOfView, IsServed, IsSound};
+ghost use Rattle.kr_seen.specs.kr_ops.Sound.{IsOfView, IsOfViewFor, IsServed, IsSoundFor};
 ghost use Rattle.kr_seen.specs.PerformedRows.{Performs};
 ghost use Rattle.kr_transfer.specs.Channels.{PerformsOn};
 ghost use Rattle.kr_transfer.specs.Listing.{all_shown, last_from, IsNextFitting};
@@ -106,8 +106,7 @@ fn tell<T: Copy, const M: u8>(
     buf: u64,
     all: &Gathered,
 ) -> Outcome
-    requires sound { IsSound state.old }
-    requires lives { IsSome (process pid (meaning state.old)) }
+    requires caller { IsSoundFor pid state.old }
     requires few { length all.now.bytes < 4294967296 }
     ensures performs { Performs pid (λ k. write_if_allowed buf all.now.bytes (refuse Fault) (done (length all.now.bytes) (Seek fd all.now.last ∷ []))) state.old state.new result }
     ensures served { result ≢ WantOfMemory → IsServed state.new }
@@ -131,8 +130,7 @@ fn list_shown<T: Copy, const M: u8>(
     buf: u64,
     n: u32,
 ) -> Outcome
-    requires view { IsOfView state.old }
-    requires lives { IsSome (process pid (meaning state.old)) }
+    requires caller { IsOfViewFor pid state.old }
     requires shown { is_some (shown_by (known image_layout pid (meaning state.old)) host) ≡ true }
     ensures performs { Performs pid (λ k. list_rest channel.fd buf n (behind channel.at (all_shown k host))) state.old state.new result }
     ensures served { result ≢ WantOfMemory → IsServed state.new }
@@ -162,8 +160,7 @@ fn list_host<T: Copy, const M: u8>(
     buf: u64,
     n: u32,
 ) -> Outcome
-    requires view { IsOfView state.old }
-    requires lives { IsSome (process pid (meaning state.old)) }
+    requires { IsOfViewFor pid state.old }
     ensures performs { Performs pid (λ k. list_host k channel.fd channel.at buf n host) state.old state.new result }
     ensures served { result ≢ WantOfMemory → IsServed state.new }
 {
@@ -185,8 +182,7 @@ fn list_open<T: Copy, const M: u8>(
     buf: u64,
     n: u32,
 ) -> Outcome
-    requires view { IsOfView state.old }
-    requires lives { IsSome (process pid (meaning state.old)) }
+    requires { IsOfViewFor pid state.old }
     ensures performs { PerformsOn pid channel (λ k o. option_map_or (λ p. list_host k channel.fd o.at buf n p.host) o.place (refuse NotDirectory)) state.old state.new result }
     ensures served { result ≢ WantOfMemory → IsServed state.new }
 {
@@ -207,8 +203,7 @@ pub fn getdents64<T: Copy, const M: u8>(
     buf: u64,
     n: i32,
 ) -> Outcome
-    requires view { IsOfView state.old }
-    requires lives { IsSome (process pid (meaning state.old)) }
+    requires { IsOfViewFor pid state.old }
     ensures performs { Performs pid (λ k. getdents64_row k fd buf n) state.old state.new result }
     ensures served { result ≢ WantOfMemory → IsServed state.new }
 {

@@ -2,8 +2,8 @@
 //!
 //! What is proved, with the clause or the law that carries it:
 //!
-//! Calls that move bytes between files, pipes, the console and the caller's memory, carried out on a state of kr_ops: read, readv, write, writev,
-//! ftruncate and getdents64.
+//! Calls that move bytes between files, pipes, the console and the caller's memory, set the size of a file or list a directory, carried out on a
+//! state of kr_ops. A module for each subject has a function for each call.
 //!
 //! Each answers the outcome of its row and leaves what the row's reply makes of the state (`Performs`), for a state that is lawful for some view.
 //! A row may use the memory many times; how far it has come by then is `HasComeTo`.

@@ -14,6 +14,7 @@ ghost use Rattle.kr_seen.specs.kr_ops.Sound.{IsOfView, IsSound};
 ghost use Rattle.kr_transfer.specs.Listing.{first_behind, or_else, told_entry};
 
 use crate::moving::allocator_of;
+use kr_inode::below::pr_base::limits::DESCRIPTORS;
 use kr_inode::below::pr_base::{Bytes, NoMemory};
 use kr_seen::below::{
     Host, Ino, Kind, ProcAt, State, dirent_bytes, proc_inode, proc_name, proc_serial,
@@ -190,9 +191,6 @@ pub fn directory_entry<T: Copy, const M: u8>(
     Ok(None)
 }
 
-/// How many descriptors a process may have.
-const DESCRIPTORS: u64 = 1024;
-
 /// The first entry behind a place of the directory of a process's descriptors, dots apart. Descriptor `n` has the serial 3 + `n`.
 pub fn descriptor_entry<T: Copy, const M: u8>(
     state: &State<T, M>,
@@ -204,8 +202,8 @@ pub fn descriptor_entry<T: Copy, const M: u8>(
     ensures entry { IfOk result (λ next. option_map told_entry next ≡ first_behind after (of_descriptors (known image_layout pid (meaning state.now)) of)) }
     ensures short { IfOk result (λ next. IfSome next (λ e. length e.name ≤ 255)) }
 {
-    let from = after.saturating_sub(2).min(DESCRIPTORS) as u32;
-    for fd in from..DESCRIPTORS as u32 {
+    let from = after.saturating_sub(2).min(DESCRIPTORS as u64) as u32;
+    for fd in from..DESCRIPTORS {
         let Some(_flag) = state.cloexec(of, fd) else {
             continue;
         };

@@ -1,26 +1,22 @@
 //! Lists of pieces in the caller's memory, as readv(2) and writev(2) name them.
-ghost use Rattle.std.specs.Prelude.{◌≡◌, ◌≢◌, ◌≤◌, ◌*◌, List, length, take, drop, ◌+◌, IfOk, IsErrOf, IsSome};
+ghost use Rattle.std.specs.Prelude.{◌≡◌, ◌≢◌, ◌≤◌, ◌*◌, List, length, take, drop, ◌+◌, IfOk, IsErrOf};
 ghost use Rattle.std.specs.Int.{from_le_bytes, w64};
 ghost use Rattle.kr_inode.specs.pr_base.declared.errno.Errno.{Errno};
 ghost use Rattle.kr_seen.specs.kr_model.Pieces.{asked, cut_to, move_limit, pieces_of, with_list, Piece as ModelPiece};
 ghost use Rattle.kr_seen.specs.kr_model.Reply.{refusal, refuse, Replying};
-ghost use Rattle.kr_seen.specs.kr_model.State.{process};
 ghost use Rattle.kr_seen.specs.kr_model.declared.outcome.Outcome.TheVariants.{NoMemory as WantOfMemory};
-ghost use Rattle.kr_seen.specs.kr_ops.Meaning.{meaning};
-ghost use Rattle.kr_seen.specs.kr_ops.Sound.{IsSound};
+ghost use Rattle.kr_seen.specs.kr_ops.Sound.{IsSoundFor};
 ghost use Rattle.kr_seen.specs.Using.{HasComeTo};
 ghost use Rattle.kr_transfer.specs.Moving.{told, OnlyReads};
 
 use crate::moving::{MOVE_LIMIT, allocator_of};
 use crate::pieces::{Piece, total};
+use kr_inode::below::pr_base::limits::MOST_PIECES;
 use kr_inode::below::pr_base::{Errno, NoMemory};
 use kr_seen::below::{Outcome, State};
 use kr_seen::caller::{self, LoadFault};
 use kr_seen::refused;
 use std::alloc::Global;
-
-/// The most pieces of a list.
-const MOST_PIECES: u64 = 1024;
 
 /// How many bytes an entry of a list has: an address and a length.
 const ENTRY_SIZE: usize = 16;
@@ -33,7 +29,7 @@ pub(crate) struct PieceList {
 }
 
 /// Why a list isn't used.
-#[derive(Clone, Copy, Debug, PartialEq, Eq)]
+#[derive(Clone, Copy)]
 pub(crate) enum ListFault {
     Refused(Errno),
     NoMemory,
@@ -98,8 +94,7 @@ pub(crate) fn read_list<T: Copy, const M: u8>(
     list: u64,
     count: u64,
 ) -> Result<PieceList, ListFault>
-    requires sound { IsSound state.old }
-    requires lives { IsSome (process pid (meaning state.old)) }
+    requires { IsSoundFor pid state.old }
     ensures ok { IfOk result (λ read. (next : List ModelPiece → Replying) → HasComeTo pid (with_list list count next) state.old (next (told read.pieces.items)) state.new) }
     ensures counted { IfOk result (λ read. (read.count ≡ asked (told read.pieces.items)) × (read.count ≤ move_limit)) }
     ensures refused { (e : Errno) → IsErrOf result (ListFault.Refused e) → (next : List ModelPiece → Replying) → HasComeTo pid (with_list list count next) state.old (refuse e) state.new }

@@ -1,14 +1,13 @@
 //! Bytes that are moved between calls and pieces of the caller's memory.
-ghost use Rattle.std.specs.Prelude.{◌≡◌, ◌<◌, ◌≤◌, ◌^◌, ℕ, List, true, false, length, IfOk, IfSome, OnOk, OnErr, IsErrOf, IsSome, take, drop};
+ghost use Rattle.std.specs.Prelude.{◌≡◌, ◌<◌, ◌≤◌, ◌^◌, ℕ, List, true, false, length, IfOk, IfSome, OnOk, OnErr, IsErrOf, take, drop};
 ghost use Rattle.kr_inode.specs.pr_base.declared.errno.Errno.TheVariants.{EFAULT as Fault};
 ghost use Rattle.kr_seen.specs.rv_mem.declared.rights.Use.TheVariants.{Read, Write};
 ghost use Rattle.kr_seen.specs.kr_model.Change.{Change};
 ghost use Rattle.kr_seen.specs.kr_model.Pieces.{asked, cut_to, hand, laid_into, read_all, write_all};
 ghost use Rattle.kr_seen.specs.kr_model.Reply.{Replying, done, refuse};
-ghost use Rattle.kr_seen.specs.kr_model.State.{process};
 ghost use Rattle.kr_seen.specs.kr_ops.Making.{IsAsBefore};
 ghost use Rattle.kr_seen.specs.kr_ops.Meaning.{meaning};
-ghost use Rattle.kr_seen.specs.kr_ops.Sound.{IsSound};
+ghost use Rattle.kr_seen.specs.kr_ops.Sound.{IsSoundFor};
 ghost use Rattle.kr_seen.specs.PerformedRows.{memory_of};
 ghost use Rattle.kr_seen.specs.Using.{HasComeTo};
 ghost use Rattle.kr_transfer.specs.Moving.{all_allowed, told, LeavesOthers, OnlyReads};
@@ -43,8 +42,7 @@ pub(crate) fn may_use_all<T: Copy, const M: u8>(
     n: u64,
     what: Use,
 ) -> bool
-    requires sound { IsSound state.now }
-    requires lives { IsSome (process pid (meaning state.now)) }
+    requires { IsSoundFor pid state.now }
     ensures { result ≡ all_allowed (memory_of pid (meaning state.now)).pages what (cut_to n (told pieces.now)) }
 {
     let mut left = n;
@@ -65,8 +63,7 @@ pub(crate) fn read_all<T: Copy, const M: u8>(
     pieces: &[Piece],
     n: u64,
 ) -> Result<Bytes, NoMemory>
-    requires sound { IsSound state.old }
-    requires lives { IsSome (process pid (meaning state.old)) }
+    requires caller { IsSoundFor pid state.old }
     requires allowed { all_allowed (memory_of pid (meaning state.old)).pages Read (cut_to n (told pieces.now)) ≡ true }
     ensures comes { IfOk result (λ bytes. (next : List ℕ → Replying) → HasComeTo pid (read_all (cut_to n (told pieces.now)) next) state.old (next bytes) state.new) }
     ensures count { IfOk result (λ bytes. length bytes ≡ asked (cut_to n (told pieces.now))) }
@@ -93,8 +90,7 @@ pub(crate) fn write_all<T: Copy, const M: u8>(
     pieces: &[Piece],
     bytes: &[u8],
 ) -> Result<(), NoMemory>
-    requires sound { IsSound state.old }
-    requires lives { IsSome (process pid (meaning state.old)) }
+    requires caller { IsSoundFor pid state.old }
     requires allowed { all_allowed (memory_of pid (meaning state.old)).pages Write (cut_to (length bytes.now) (told pieces.now)) ≡ true }
     ensures comes { OnOk result ((next : Replying) → HasComeTo pid (write_all (laid_into (cut_to (length bytes.now) (told pieces.now)) bytes.now) next) state.old next state.new) }
     ensures leaves { OnOk result (LeavesOthers pid state.old state.new) }
@@ -119,8 +115,7 @@ pub(crate) fn hand<T: Copy, const M: u8>(
     pieces: &[Piece],
     bytes: &[u8],
 ) -> Result<(), StoreFault>
-    requires sound { IsSound state.old }
-    requires lives { IsSome (process pid (meaning state.old)) }
+    requires caller { IsSoundFor pid state.old }
     requires some { 0 < length bytes.now }
     ensures ok { OnOk result ((changes : List Change) → HasComeTo pid (hand (told pieces.now) bytes.now changes) state.old (done (length bytes.now) changes) state.new) }
     ensures leaves { OnOk result (LeavesOthers pid state.old state.new) }

@@ -4,7 +4,7 @@ ghost use Rattle.kr_seen.specs.kr_model.Pieces.{asked};
 ghost use Rattle.kr_transfer.specs.Moving.{told};
 
 /// `count` bytes at the address `at`.
-#[derive(Clone, Copy, Debug, PartialEq, Eq)]
+#[derive(Clone, Copy)]
 pub struct Piece {
     pub at: u64,
     pub count: u64,

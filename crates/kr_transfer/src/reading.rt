@@ -1,18 +1,16 @@
 //! Calls that read from what is open.
-ghost use Rattle.std.specs.Prelude.{◌≡◌, ◌≢◌, ◌+◌, ◌<◌, ◌≤◌, ◌^◌, ℕ, not, if◌then◌else◌, Some, None, IfNone, IfSome, IfOk, IsSome, take, drop, length, true, min};
+ghost use Rattle.std.specs.Prelude.{◌≡◌, ◌≢◌, ◌+◌, ◌<◌, ◌^◌, ℕ, not, if◌then◌else◌, Some, None, IfNone, IfSome, IfOk, take, drop, length, true, min};
 ghost use Rattle.kr_inode.specs.pr_base.declared.errno.Errno.TheVariants.{EBADF as NotOpen, EISDIR as IsDirectory};
 ghost use Rattle.kr_seen.specs.kr_model.FileRows.{is_dir, read_file, read_input, read_pieces, read_pipe, read_row, readv_row};
-ghost use Rattle.kr_seen.specs.kr_model.Pieces.{asked, move_limit, one_piece, with_list};
+ghost use Rattle.kr_seen.specs.kr_model.Pieces.{one_piece, with_list};
 ghost use Rattle.kr_seen.specs.kr_model.Reply.{refuse};
-ghost use Rattle.kr_seen.specs.kr_model.State.{process};
 ghost use Rattle.kr_seen.specs.kr_model.declared.outcome.Outcome.TheVariants.{NoMemory as WantOfMemory};
 ghost use Rattle.kr_seen.specs.kr_files.declared.opened.What.TheVariants.{PipeRead as ReadEnd, In as ConsoleInput, File as RegularFile};
-ghost use Rattle.kr_seen.specs.kr_ops.Meaning.{meaning};
-ghost use Rattle.kr_seen.specs.kr_ops.Sound.{IsOfView, IsServed};
+ghost use Rattle.kr_seen.specs.kr_ops.Sound.{IsOfViewFor, IsServed};
 ghost use Rattle.kr_seen.specs.PerformedRows.{Performs};
 ghost use Rattle.kr_seen.specs.kr_tree.Tree.{body_is, is_file};
 ghost use Rattle.kr_transfer.specs.Channels.{inode_under, IsOpenHere, PerformsOn};
-ghost use Rattle.kr_transfer.specs.Moving.{bytes_at, told};
+ghost use Rattle.kr_transfer.specs.Moving.{bytes_at, told, IsCountOf};
 
 use crate::channel::{Channel, channel_of, inode_of, is_directory};
 use crate::lists::{answer_of, read_list};
@@ -33,8 +31,7 @@ pub fn read<T: Copy, const M: u8>(
     buf: u64,
     n: u64,
 ) -> Outcome
-    requires view { IsOfView state.old }
-    requires lives { IsSome (process pid (meaning state.old)) }
+    requires { IsOfViewFor pid state.old }
     ensures performs { Performs pid (λ k. read_row k fd buf n) state.old state.new result }
     ensures served { result ≢ WantOfMemory → IsServed state.new }
 {
@@ -66,8 +63,7 @@ fn read_open<T: Copy, const M: u8>(
     buf: u64,
     n: u64,
 ) -> Outcome
-    requires view { IsOfView state.old }
-    requires lives { IsSome (process pid (meaning state.old)) }
+    requires caller { IsOfViewFor pid state.old }
     requires here { IsOpenHere pid channel state.old }
     ensures performs { PerformsOn pid channel (λ k o. if not o.read then refuse NotOpen else if is_dir o.what then refuse IsDirectory else read_pieces k channel.fd o (one_piece buf n)) state.old state.new result }
     ensures served { result ≢ WantOfMemory → IsServed state.new }
@@ -88,11 +84,9 @@ fn read_pieces<T: Copy, const M: u8>(
     pieces: &[Piece],
     count: u64,
 ) -> Outcome
-    requires view { IsOfView state.old }
-    requires lives { IsSome (process pid (meaning state.old)) }
+    requires caller { IsOfViewFor pid state.old }
     requires here { IsOpenHere pid channel state.old }
-    requires asked { count ≡ asked (told pieces.now) }
-    requires limited { count ≤ move_limit }
+    requires count { IsCountOf pieces.now count }
     ensures performs { PerformsOn pid channel (λ k o. read_pieces k channel.fd o (told pieces.now)) state.old state.new result }
     ensures served { result ≢ WantOfMemory → IsServed state.new }
 {
@@ -118,12 +112,10 @@ fn read_file<T: Copy, const M: u8>(
     pieces: &[Piece],
     count: u64,
 ) -> Outcome
-    requires view { IsOfView state.old }
-    requires lives { IsSome (process pid (meaning state.old)) }
+    requires caller { IsOfViewFor pid state.old }
     requires here { IsOpenHere pid channel state.old }
     requires file { channel.what ≡ RegularFile }
-    requires asked { count ≡ asked (told pieces.now) }
-    requires limited { count ≤ move_limit }
+    requires count { IsCountOf pieces.now count }
     ensures performs { PerformsOn pid channel (λ k o. read_file k channel.fd o (told pieces.now)) state.old state.new result }
     ensures served { result ≢ WantOfMemory → IsServed state.new }
 {
@@ -170,10 +162,8 @@ fn read_input<T: Copy, const M: u8>(
     pieces: &[Piece],
     count: u64,
 ) -> Outcome
-    requires view { IsOfView state.old }
-    requires lives { IsSome (process pid (meaning state.old)) }
-    requires asked { count ≡ asked (told pieces.now) }
-    requires limited { count ≤ move_limit }
+    requires caller { IsOfViewFor pid state.old }
+    requires count { IsCountOf pieces.now count }
     ensures performs { PerformsOn pid channel (λ k o. read_input k (told pieces.now)) state.old state.new result }
     ensures served { result ≢ WantOfMemory → IsServed state.new }
 {
@@ -205,11 +195,9 @@ fn read_pipe<T: Copy, const M: u8>(
     count: u64,
     pipe: u32,
 ) -> Outcome
-    requires view { IsOfView state.old }
-    requires lives { IsSome (process pid (meaning state.old)) }
+    requires caller { IsOfViewFor pid state.old }
     requires some { 0 < count }
-    requires asked { count ≡ asked (told pieces.now) }
-    requires limited { count ≤ move_limit }
+    requires count { IsCountOf pieces.now count }
     ensures performs { PerformsOn pid channel (λ k o. read_pipe k pipe (told pieces.now) (k.pipe pipe)) state.old state.new result }
     ensures served { result ≢ WantOfMemory → IsServed state.new }
 {
@@ -250,8 +238,7 @@ pub fn readv<T: Copy, const M: u8>(
     list: u64,
     count: u64,
 ) -> Outcome
-    requires view { IsOfView state.old }
-    requires lives { IsSome (process pid (meaning state.old)) }
+    requires { IsOfViewFor pid state.old }
     ensures performs { Performs pid (λ k. readv_row k fd list count) state.old state.new result }
     ensures served { result ≢ WantOfMemory → IsServed state.new }
 {
@@ -270,8 +257,7 @@ fn readv_open<T: Copy, const M: u8>(
     list: u64,
     count: u64,
 ) -> Outcome
-    requires view { IsOfView state.old }
-    requires lives { IsSome (process pid (meaning state.old)) }
+    requires caller { IsOfViewFor pid state.old }
     requires here { IsOpenHere pid channel state.old }
     ensures performs { PerformsOn pid channel (λ k o. if not o.read then refuse NotOpen else if is_dir o.what then refuse IsDirectory else with_list list count (read_pieces k channel.fd o)) state.old state.new result }
     ensures served { result ≢ WantOfMemory → IsServed state.new }

@@ -1,5 +1,5 @@
 //! Calls that write to what is open.
-ghost use Rattle.std.specs.Prelude.{◌≡◌, ◌≢◌, ◌+◌, ◌<◌, ◌≤◌, ◌^◌, ℕ, not, if◌then◌else◌, Some, None, IsSome, length, true};
+ghost use Rattle.std.specs.Prelude.{◌≡◌, ◌≢◌, ◌+◌, ◌<◌, ◌≤◌, ◌^◌, ℕ, not, if◌then◌else◌, Some, None, length, true};
 ghost use Rattle.kr_inode.specs.pr_base.declared.errno.Errno.TheVariants.{EBADF as NotOpen, EISDIR as IsDirectory};
 ghost use Rattle.kr_seen.specs.rv_mem.declared.rights.Use.TheVariants.{Read};
 ghost use Rattle.kr_seen.specs.kr_files.declared.opened.What.TheVariants.{File as RegularFile, PipeWrite as WriteEnd, Out as ConsoleOutput, Err as ConsoleError};
@@ -7,21 +7,21 @@ ghost use Rattle.kr_seen.specs.kr_tree.Changes.{file_limit};
 ghost use Rattle.kr_seen.specs.kr_tree.Lawful.{AreBytes};
 ghost use Rattle.kr_seen.specs.kr_tree.Tree.{body_is, is_file};
 ghost use Rattle.kr_seen.specs.kr_model.FileRows.{is_dir, put_in_file, write_file, write_pieces, write_pipe, write_place, write_row, write_what, writev_row};
-ghost use Rattle.kr_seen.specs.kr_model.Pieces.{asked, move_limit, one_piece, with_list};
+ghost use Rattle.kr_seen.specs.kr_model.Pieces.{one_piece, with_list};
 ghost use Rattle.kr_seen.specs.kr_model.Reply.{refuse};
-ghost use Rattle.kr_seen.specs.kr_model.State.{process};
 ghost use Rattle.kr_seen.specs.kr_model.declared.outcome.Outcome.TheVariants.{NoMemory as WantOfMemory};
 ghost use Rattle.kr_seen.specs.kr_ops.Meaning.{meaning};
-ghost use Rattle.kr_seen.specs.kr_ops.Sound.{IsOfView, IsServed};
+ghost use Rattle.kr_seen.specs.kr_ops.Sound.{IsOfViewFor, IsServed};
 ghost use Rattle.kr_seen.specs.PerformedRows.{memory_of, Performs};
 ghost use Rattle.kr_transfer.specs.Channels.{inode_under, IsOpenHere, PerformsOn};
-ghost use Rattle.kr_transfer.specs.Moving.{all_allowed, bytes_at, told};
+ghost use Rattle.kr_transfer.specs.Moving.{all_allowed, bytes_at, told, IsCountOf};
 
 use crate::channel::{Channel, channel_of, inode_of, is_directory};
 use crate::lists::{answer_of, read_list};
 use crate::moving::{MOVE_LIMIT, may_use_all, read_all};
 use crate::pieces::Piece;
 use kr_inode::FILE_LIMIT;
+use kr_inode::below::pr_base::limits::PIPE_BYTES;
 use kr_inode::below::pr_base::{Errno, NoMemory};
 use kr_seen::below::{Outcome, State, TreeRefusal, Use, What, lawful_states_are_sound};
 use kr_seen::{number, refused};
@@ -30,7 +30,7 @@ use kr_seen::{number, refused};
 const SIGPIPE: u32 = 13;
 
 /// How many bytes a pipe holds at most.
-const PIPE_LIMIT: u32 = 65_536;
+const PIPE_LIMIT: u32 = PIPE_BYTES as u32;
 
 /// write(2): EBADF of a descriptor that isn't open for writing, EISDIR. At most 2,147,479,552 bytes are asked, and a length
 /// of 0 answers 0. EFAULT of all bytes asked. A pipe without readers kills the caller, a full one waits, and another takes as
@@ -44,8 +44,7 @@ pub fn write<T: Copy, const M: u8>(
     buf: u64,
     n: u64,
 ) -> Outcome
-    requires view { IsOfView state.old }
-    requires lives { IsSome (process pid (meaning state.old)) }
+    requires { IsOfViewFor pid state.old }
     ensures performs { Performs pid (λ k. write_row k fd buf n) state.old state.new result }
     ensures served { result ≢ WantOfMemory → IsServed state.new }
 {
@@ -77,8 +76,7 @@ fn write_open<T: Copy, const M: u8>(
     buf: u64,
     n: u64,
 ) -> Outcome
-    requires view { IsOfView state.old }
-    requires lives { IsSome (process pid (meaning state.old)) }
+    requires caller { IsOfViewFor pid state.old }
     requires here { IsOpenHere pid channel state.old }
     ensures performs { PerformsOn pid channel (λ k o. if not o.write then refuse NotOpen else if is_dir o.what then refuse IsDirectory else write_pieces k channel.fd o (one_piece buf n)) state.old state.new result }
     ensures served { result ≢ WantOfMemory → IsServed state.new }
@@ -99,11 +97,9 @@ fn write_pieces<T: Copy, const M: u8>(
     pieces: &[Piece],
     count: u64,
 ) -> Outcome
-    requires view { IsOfView state.old }
-    requires lives { IsSome (process pid (meaning state.old)) }
+    requires caller { IsOfViewFor pid state.old }
     requires here { IsOpenHere pid channel state.old }
-    requires asked { count ≡ asked (told pieces.now) }
-    requires limited { count ≤ move_limit }
+    requires count { IsCountOf pieces.now count }
     ensures performs { PerformsOn pid channel (λ k o. write_pieces k channel.fd o (told pieces.now)) state.old state.new result }
     ensures served { result ≢ WantOfMemory → IsServed state.new }
 {
@@ -147,13 +143,11 @@ fn write_file<T: Copy, const M: u8>(
     pieces: &[Piece],
     count: u64,
 ) -> Outcome
-    requires view { IsOfView state.old }
-    requires lives { IsSome (process pid (meaning state.old)) }
+    requires caller { IsOfViewFor pid state.old }
     requires here { IsOpenHere pid channel state.old }
     requires file { channel.what ≡ RegularFile }
     requires some { 0 < count }
-    requires asked { count ≡ asked (told pieces.now) }
-    requires limited { count ≤ move_limit }
+    requires count { IsCountOf pieces.now count }
     requires allowed { all_allowed (memory_of pid (meaning state.old)).pages Read (told pieces.now) ≡ true }
     ensures performs { PerformsOn pid channel (λ k o. write_file k channel.fd o (told pieces.now) (write_place k o)) state.old state.new result }
     ensures served { result ≢ WantOfMemory → IsServed state.new }
@@ -183,8 +177,7 @@ fn put_in_file<T: Copy, const M: u8>(
     at: u64,
     bytes: &[u8],
 ) -> Outcome
-    requires view { IsOfView state.old }
-    requires lives { IsSome (process pid (meaning state.old)) }
+    requires caller { IsOfViewFor pid state.old }
     requires here { IsOpenHere pid channel state.old }
     requires file { channel.what ≡ RegularFile }
     requires some { 0 < length bytes.now }
@@ -212,10 +205,8 @@ fn write_out<T: Copy, const M: u8>(
     pieces: &[Piece],
     count: u64,
 ) -> Outcome
-    requires view { IsOfView state.old }
-    requires lives { IsSome (process pid (meaning state.old)) }
-    requires asked { count ≡ asked (told pieces.now) }
-    requires limited { count ≤ move_limit }
+    requires caller { IsOfViewFor pid state.old }
+    requires count { IsCountOf pieces.now count }
     requires allowed { all_allowed (memory_of pid (meaning state.old)).pages Read (told pieces.now) ≡ true }
     ensures performs { PerformsOn pid channel (λ k o. write_what k channel.fd o (told pieces.now) ConsoleOutput) state.old state.new result }
     ensures served { result ≢ WantOfMemory → IsServed state.new }
@@ -239,10 +230,8 @@ fn write_err<T: Copy, const M: u8>(
     pieces: &[Piece],
     count: u64,
 ) -> Outcome
-    requires view { IsOfView state.old }
-    requires lives { IsSome (process pid (meaning state.old)) }
-    requires asked { count ≡ asked (told pieces.now) }
-    requires limited { count ≤ move_limit }
+    requires caller { IsOfViewFor pid state.old }
+    requires count { IsCountOf pieces.now count }
     requires allowed { all_allowed (memory_of pid (meaning state.old)).pages Read (told pieces.now) ≡ true }
     ensures performs { PerformsOn pid channel (λ k o. write_what k channel.fd o (told pieces.now) ConsoleError) state.old state.new result }
     ensures served { result ≢ WantOfMemory → IsServed state.new }
@@ -267,11 +256,9 @@ fn write_pipe<T: Copy, const M: u8>(
     count: u64,
     pipe: u32,
 ) -> Outcome
-    requires view { IsOfView state.old }
-    requires lives { IsSome (process pid (meaning state.old)) }
+    requires caller { IsOfViewFor pid state.old }
     requires some { 0 < count }
-    requires asked { count ≡ asked (told pieces.now) }
-    requires limited { count ≤ move_limit }
+    requires count { IsCountOf pieces.now count }
     requires allowed { all_allowed (memory_of pid (meaning state.old)).pages Read (told pieces.now) ≡ true }
     ensures performs { PerformsOn pid channel (λ k o. write_pipe k pipe (told pieces.now) (k.pipe pipe)) state.old state.new result }
     ensures served { result ≢ WantOfMemory → IsServed state.new }
@@ -309,8 +296,7 @@ pub fn writev<T: Copy, const M: u8>(
     list: u64,
     count: u64,
 ) -> Outcome
-    requires view { IsOfView state.old }
-    requires lives { IsSome (process pid (meaning state.old)) }
+    requires { IsOfViewFor pid state.old }
     ensures performs { Performs pid (λ k. writev_row k fd list count) state.old state.new result }
     ensures served { result ≢ WantOfMemory → IsServed state.new }
 {
@@ -329,8 +315,7 @@ fn writev_open<T: Copy, const M: u8>(
     list: u64,
     count: u64,
 ) -> Outcome
-    requires view { IsOfView state.old }
-    requires lives { IsSome (process pid (meaning state.old)) }
+    requires caller { IsOfViewFor pid state.old }
     requires here { IsOpenHere pid channel state.old }
     ensures performs { PerformsOn pid channel (λ k o. if not o.write then refuse NotOpen else if is_dir o.what then refuse IsDirectory else with_list list count (write_pieces k channel.fd o)) state.old state.new result }
     ensures served { result ≢ WantOfMemory → IsServed state.new }

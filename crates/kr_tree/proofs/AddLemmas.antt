@@ -16,6 +16,7 @@ use Rattle.kr_tree.proofs.OfBytesLemmas.{of_bytes-added}
 use Rattle.kr_inode.proofs.EntryLemmas.{listed-none, listed-new, in-new, in-last, in-append}
 use Rattle.kr_inode.proofs.BodyLemmas.{entries-with_entries, standing-with_entries, is_directory-with_entries, is_listed-with_entries, bytes-with_entries, file-with_entries, entries-with_standing, standing-with_standing, is_directory-with_standing, bytes-with_standing, file-with_standing, takes-is_listed, takes-stands, listed-is_directory, is_directory-stands}
 use Rattle.kr_tree.proofs.CountLemmas.{value, sum-same, sum-changed, sum-suc, counted-same, counted-other, count-new, directories-same, directories-new, there, standing_there, above_there}
+use Rattle.kr_inode.proofs.pr_base.TextLemmas.{some_is}
 
 -- an inode whose body passes a test is there
 pub passing : (test : Body → Bool) (o : Option Inode) → option_map_or (λ x. test x.node.body) o false ≡ true → (x : Inode) × (o ≡ Some x) × (test x.node.body ≡ true)
@@ -200,9 +201,6 @@ module _ (t : Tree) (sound : IsSound t) (counts : IsCounted t) (dir : ℕ) (name
       (listed-new name t.next (entries_beside x) well (free_in (entries_of x.node.body) (ap (entry_named name) entries_at)) (sound.listed dir x at_dir)))))
       (λ q d n. subst P (sym (other_is q d n)) (sound.listed q)) i z h
     where
-      some_is : (a z : Inode) → Some a ≡ Some z → a ≡ z
-      some_is a z h = ap (λ o. option_map_or (λ s. s) o a) h
-
       free_in : (es : List Entry) → entry_named name (entries t dir) ≡ entry_named name es → entry_named name es ≡ None
       free_in es same = none_of (entry_named name es) (ap (option_map (λ s. s.inode)) (sym same) ∙ free)
 

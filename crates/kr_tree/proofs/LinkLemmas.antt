@@ -15,6 +15,7 @@ use Rattle.kr_inode.proofs.EntryLemmas.{listed-new, in-new, in-append}
 use Rattle.kr_inode.proofs.BodyLemmas.{entries-with_entries, standing-with_entries, is_directory-with_entries, is_listed-with_entries, bytes-with_entries, file-with_entries, takes-is_listed, takes-stands, listed-is_directory, linked-is_directory}
 use Rattle.kr_tree.proofs.CountLemmas.{value, sum-changed, counted-same, counted-other, count-new, directories-same, directories-new}
 use Rattle.kr_tree.proofs.AddLemmas.{passing, none_of}
+use Rattle.kr_inode.proofs.pr_base.TextLemmas.{some_is}
 
 module _ (t : Tree) (h : IsKept t) (dir : ℕ) (name : List ℕ) (file : ℕ)
     (takes : body_is takes_names t dir ≡ true) (well : is_name name ≡ true) (free : entry t dir name ≡ None)
@@ -141,9 +142,6 @@ module _ (t : Tree) (h : IsKept t) (dir : ℕ) (name : List ℕ) (file : ℕ)
     where
       among : (d : ℕ) → IsIn z (entries t d) → standing u z.inode ≡ Some (record { inode = d; serial = z.serial })
       among d before = standings z.inode ∙ h.sound.alone d z before (sym (directories z.inode) ∙ dirs)
-
-  some_is : (a z : Inode) → Some a ≡ Some z → a ≡ z
-  some_is a z is = ap (λ o. option_map_or (λ s. s) o a) is
 
   listed_at : (i : ℕ) (z : Inode) → inode u i ≡ Some z → IsListed (entries_beside z)
   listed_at =

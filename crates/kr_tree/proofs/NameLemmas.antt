@@ -16,19 +16,13 @@ use Rattle.kr_inode.proofs.BodyLemmas.{entries-is_listed, listed-is_directory, i
 use Rattle.kr_inode.proofs.EntryLemmas.{named_in, in_named, in_above, all-in, serial_alone}
 use Rattle.kr_inode.proofs.NameLemmas.{name_decides}
 use Rattle.kr_tree.proofs.CountLemmas.{entries_there, root_directory}
+pub use Rattle.kr_inode.proofs.pr_base.TextLemmas.{some_is, map_some}
 
 -- ---- what is found
 
 pub then_some : {A B : Type 0} (f : A → Option B) (o : Option A) (y : B) → option_and_then f o ≡ Some y → (x : A) × (o ≡ Some x) × (f x ≡ Some y)
 then_some f None y h = absurd cc
 then_some f (Some x) y h = (x, refl, h)
-
-pub some_is : {A : Type 0} (a b : A) → Some a ≡ Some b → a ≡ b
-some_is a b h = ap (λ o. option_map_or (λ s. s) o a) h
-
-pub map_some : {A B : Type 0} (f : A → B) (o : Option A) (y : B) → option_map f o ≡ Some y → (x : A) × (o ≡ Some x) × (f x ≡ y)
-map_some f None y h = absurd cc
-map_some f (Some x) y h = (x, refl, some_is (f x) y h)
 
 second : (p q : List ℕ × ℕ) → p ≡ q → p.1 ≡ q.1
 second p q h = ap (λ (p : List ℕ × ℕ). p.1) h

@@ -17,6 +17,7 @@ use Rattle.kr_inode.proofs.BodyLemmas.{entries-with_entries, standing-with_entri
 use Rattle.kr_tree.proofs.CountLemmas.{value, sum-at, sum-changed, counted-same, counted-other, directories-same, entries_there, there, root_directory}
 use Rattle.kr_tree.proofs.DropLemmas.{kept-dropped, freed-le}
 use Rattle.kr_tree.proofs.QuietLemmas.{of_entries}
+use Rattle.kr_inode.proofs.pr_base.TextLemmas.{some_is}
 
 -- counts as weights
 pub weighed-count : (i : ℕ) (es : List Entry) → weighed (λ e. counted (nat_eq i e.inode)) es ≡ count_in i es
@@ -207,9 +208,6 @@ module _ (t : Tree) (sound : IsSound t) (counts : IsCounted t) (dir : ℕ) (name
     where
       in_x : (z : Entry) → IsIn z (entries t dir) → IsIn z (entries_of x.node.body)
       in_x z h = let P : List Entry → Type 0 = λ es. IsIn z es in subst P entries_at h
-
-  some_is : (a z : Inode) → Some a ≡ Some z → a ≡ z
-  some_is a z h = ap (λ o. option_map_or (λ s. s) o a) h
 
   body_some : (a c : Body) → Some a ≡ Some c → a ≡ c
   body_some a c h = ap (λ o. option_map_or (λ s. s) o a) h

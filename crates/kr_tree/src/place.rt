@@ -3,7 +3,7 @@
 use kr_inode::Ino;
 
 /// What stands in the process directory, as proc(5) names it. A `u32` in front is a process's number.
-#[derive(Clone, Copy, Debug, PartialEq, Eq)]
+#[derive(Clone, Copy, PartialEq)]
 pub enum ProcAt {
     /// The link `self`.
     SelfLink,
@@ -22,14 +22,14 @@ pub enum ProcAt {
 }
 
 /// An object of the host: an inode, or what stands in the process directory of that inode.
-#[derive(Clone, Copy, Debug, PartialEq, Eq)]
+#[derive(Clone, Copy, PartialEq)]
 pub enum Host {
     Node(Ino),
     Proc(Ino, ProcAt),
 }
 
 /// A place: an object of the host, seen in a mount.
-#[derive(Clone, Copy, Debug, PartialEq, Eq)]
+#[derive(Clone, Copy)]
 pub struct Place<M> {
     pub mount: M,
     pub host: Host,

@@ -3,7 +3,7 @@
 use kr_inode::below::pr_base::NoMemory;
 
 /// Why a tree refuses a change, which leaves it as it was.
-#[derive(Clone, Copy, Debug, PartialEq, Eq)]
+#[derive(Clone, Copy)]
 pub enum TreeRefusal {
     /// There would be too many inodes, too many names, or too many bytes in all.
     Full,

@@ -79,6 +79,7 @@ impl Tree {
         ensures kept { IsKept self.now }
         ensures there { HasItsInodes self.now }
     {
+        // For the proof alone: what holds of each `Tree`.
         let _ = &self.next;
     }
 
@@ -88,6 +89,7 @@ impl Tree {
         ensures standing { StandingHaveHostNames self.now }
         ensures lead { HostNamesLead self.now }
     {
+        // For the proof alone: what holds of each `Tree`.
         let _ = &self.next;
     }
 
@@ -242,16 +244,6 @@ impl Tree {
     {
         match self.store.get(ino) {
             Some(inode) => inode.may_be_linked(),
-            None => false,
-        }
-    }
-
-    /// Whether an inode is there and may be held once more.
-    pub fn may_be_held(&self, ino: Ino) -> bool
-        ensures { IsTrue result ↔ (IsSome (inode self.now ino) × (option_map_or (λ x. x.holds) (inode self.now ino) 0 + 1 < 2 ^ 32)) }
-    {
-        match self.store.get(ino) {
-            Some(inode) => inode.holds() < u32::MAX,
             None => false,
         }
     }

@@ -1,11 +1,11 @@
 //! What is read and changed of a stopped process in a state.
-ghost use Rattle.std.specs.Prelude.{◌≡◌, ◌<◌, ◌↔◌, ℕ, List, IsErrOf, IsOk, IsSome, IsTrue, length, OnErr, OnOk, false, get_or, slice_set};
+ghost use Rattle.std.specs.Prelude.{◌≡◌, ◌<◌, ◌↔◌, ℕ, List, IsErrOf, IsOk, IsTrue, length, OnErr, OnOk, false, get_or, slice_set};
 ghost use Rattle.kr_steps.specs.rv_mem.Memory.{after_read, with_pages};
 ghost use Rattle.kr_steps.specs.rv_mem.Pages.{allows_all, bytes_from, written};
 ghost use Rattle.kr_steps.specs.Calls.{Runs};
 ghost use Rattle.kr_seen.specs.kr_model.State.{process};
 ghost use Rattle.kr_seen.specs.kr_ops.Meaning.{meaning};
-ghost use Rattle.kr_seen.specs.kr_ops.Sound.{IsSound};
+ghost use Rattle.kr_seen.specs.kr_ops.Sound.{IsSoundFor};
 ghost use Rattle.kr_steps.specs.Computing.{computed};
 ghost use Rattle.kr_stops.specs.Stopped.{image_in};
 ghost use Rattle.kr_execve.specs.kr_view.View.{Row};
@@ -15,8 +15,7 @@ use kr_steps::below::{BadAddress, StoreFault, Use};
 
 /// A register of a living process.
 pub fn register<T: Copy, const M: u8>(state: &State<T, M>, pid: u32, k: u8) -> u64
-    requires sound { IsSound state.now }
-    requires lives { IsSome (process pid (meaning state.now)) }
+    requires caller { IsSoundFor pid state.now }
     requires k { k < 32 }
     ensures { result ≡ get_or (image_in pid (meaning state.now)).regs.x k 0 }
 {
@@ -28,8 +27,7 @@ pub fn register<T: Copy, const M: u8>(state: &State<T, M>, pid: u32, k: u8) -> u
 
 /// Gives a register of a living process another value.
 pub fn set_register<T: Copy, const M: u8>(state: &mut State<T, M>, pid: u32, k: u8, v: u64)
-    requires sound { IsSound state.old }
-    requires lives { IsSome (process pid (meaning state.old)) }
+    requires caller { IsSoundFor pid state.old }
     requires k { k < 32 }
     ensures set { let own = image_in pid (meaning state.old) in meaning state.new ≡ computed pid (record { x = slice_set own.regs.x k v; pc = own.regs.pc }) own.memory (meaning state.old) }
     ensures runs { (number : T → ℕ) (table : List Row) (calls : ℕ) → Runs number table calls state.old → Runs number table calls state.new }
@@ -43,8 +41,7 @@ pub fn set_register<T: Copy, const M: u8>(state: &mut State<T, M>, pid: u32, k: 
 
 /// Whether each of `n` bytes of a living process from an address on may be used in a way.
 pub fn can<T: Copy, const M: u8>(state: &State<T, M>, pid: u32, at: u64, n: u64, what: Use) -> bool
-    requires sound { IsSound state.now }
-    requires lives { IsSome (process pid (meaning state.now)) }
+    requires { IsSoundFor pid state.now }
     ensures { result ≡ allows_all (image_in pid (meaning state.now)).memory.pages at n what }
 {
     match state.index_of(pid) {
@@ -61,8 +58,7 @@ pub fn peek<T: Copy, const M: u8>(
     into: &mut [u8],
     what: Use,
 ) -> Result<(), BadAddress>
-    requires sound { IsSound state.old }
-    requires lives { IsSome (process pid (meaning state.old)) }
+    requires { IsSoundFor pid state.old }
     ensures when { IsOk result ↔ IsTrue (allows_all (image_in pid (meaning state.old)).memory.pages at (length into.old) what) }
     ensures bytes { OnOk result (into.new ≡ bytes_from (image_in pid (meaning state.old)).memory.pages at (length into.old)) }
     ensures after { OnOk result (let own = image_in pid (meaning state.old) in meaning state.new ≡ computed pid own.regs (after_read own.memory at (length into.old)) (meaning state.old)) }
@@ -84,8 +80,7 @@ pub fn poke<T: Copy, const M: u8>(
     at: u64,
     b: &[u8],
 ) -> Result<(), StoreFault>
-    requires sound { IsSound state.old }
-    requires lives { IsSome (process pid (meaning state.old)) }
+    requires { IsSoundFor pid state.old }
     ensures bad { IsErrOf result StoreFault.BadAddress ↔ (allows_all (image_in pid (meaning state.old)).memory.pages at (length b.now) Use.Write ≡ false) }
     ensures after { OnOk result (let own = image_in pid (meaning state.old) in meaning state.new ≡ computed pid own.regs (with_pages own.memory (written own.memory.pages at b.now)) (meaning state.old)) }
     ensures err { OnErr result (meaning state.new ≡ meaning state.old) }

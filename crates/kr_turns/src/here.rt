@@ -1,5 +1,6 @@
 //! A process at a stop, in the state of its kernel.
 ghost use Rattle.std.specs.Prelude.{◌≡◌, ◌≤◌, ◌^◌, IsSome, refl};
+ghost use Rattle.kr_hostview.specs.NoJumps.{no-jump};
 ghost use Rattle.kr_hostview.specs.pr_base.Peeks.{NamesAreTexts};
 ghost use Rattle.kr_steps.specs.Calls.{Runs};
 ghost use Rattle.kr_seen.specs.kr_model.Peeks.{peeked_of};
@@ -98,6 +99,7 @@ fn names_are_texts<T: Copy, const M: u8>(state: &State<T, M>, pid: u32)
 fn numbers_are_small<T, const M: u8>(state: &State<T, M>)
     ensures { (meaning state.now).next_pid ≤ 2 ^ 32 }
 {
+    // For the proof alone: the field has 32 bits.
     let _next = state.next_pid;
 }
 
@@ -120,6 +122,10 @@ impl<'a, P: Places, const M: u8> Peeks for Here<'a, P, M> {
         host_peeks(self.alloc, self.state, self.pid).head(host, n)
     }
 
+    fn steady(&mut self, host: &[u8]) -> Result<bool, NoMemory> {
+        host_peeks(self.alloc, self.state, self.pid).steady(host)
+    }
+
     fn base_kind(&mut self, pid: u32, fd: u32) -> BaseKind {
         host_peeks(self.alloc, self.state, self.pid).base_kind(pid, fd)
     }
@@ -137,6 +143,8 @@ impl<'a, P: Places, const M: u8> Peeks for Here<'a, P, M> {
     }
 
     ghost names_are_texts = { held-texts P.number };
+
+    ghost steady_is_no_jump = { λ h. no-jump (stopped_of P.number h).state h.pid };
 }
 
 impl<'a, P: Places, const M: u8> Tracee for Here<'a, P, M> {

@@ -1,12 +1,11 @@
 //! Which calm rule a turn broke, where marks are kept.
-ghost use Rattle.std.specs.Prelude.{◌≡◌, ◌≢◌, ◌<◌, ◌^◌, ◌||◌, ℕ, List, Ok, Some, false, length, IsSome};
-ghost use Rattle.kr_calm.specs.Questions.{HaveRealPoints};
+ghost use Rattle.std.specs.Prelude.{◌≡◌, ◌≢◌, ◌||◌, ℕ, List, Ok, Some, false, IsSome};
+ghost use Rattle.kr_calm.specs.Questions.{HaveFewPoints};
 ghost use Rattle.kr_seen.specs.kr_model.declared.outcome.Outcome.TheVariants.{NoMemory as WantOfMemory};
 ghost use Rattle.kr_steps.specs.law_allowed.Told.{mounts_walked};
 ghost use Rattle.kr_seen.specs.Carrying.{after_row, memory_of};
 ghost use Rattle.kr_execve.specs.kr_calls.declared.request.Request.{Request as AnyRequest};
 ghost use Rattle.kr_seen.specs.kr_model.State as model;
-ghost use Rattle.kr_seen.specs.kr_model.State.{process};
 ghost use Rattle.kr_seen.specs.kr_model.Walks.{targets_of};
 ghost use Rattle.kr_seen.specs.CallWalks.{AreTargets};
 ghost use Rattle.kr_seen.specs.Numbered.{state_numbered};
@@ -15,7 +14,7 @@ ghost use Rattle.kr_turns.specs.Noting.{IsNotedOrSame};
 ghost use Rattle.kr_turns.specs.PlainCall.{row_on};
 ghost use Rattle.kr_execve.specs.kr_view.View.{Row};
 ghost use Rattle.kr_seen.specs.kr_ops.Meaning.{meaning};
-ghost use Rattle.kr_seen.specs.kr_ops.Sound.{IsServed, IsSound};
+ghost use Rattle.kr_seen.specs.kr_ops.Sound.{IsServed, IsSound, IsSoundFor};
 ghost use Rattle.kr_turns.specs.Breaking.{ending_rule, last_rule, nothing_reached, rule_told};
 
 use kr_calm::{
@@ -92,10 +91,8 @@ pub(crate) fn look_ahead<P: Places, const M: u8>(
     request: &Request,
     targets: &Targets<P::Mount>,
 ) -> Option<Ahead>
-    requires points { HaveRealPoints (P.mounts places.now) }
-    requires few { length (P.mounts places.now) < 2 ^ 32 }
-    requires sound { IsSound state.old }
-    requires lives { IsSome (process pid (meaning state.old)) }
+    requires mounts { HaveFewPoints (P.mounts places.now) }
+    requires caller { IsSoundFor pid state.old }
     requires along { AreTargets P.number (targets_of (P.mounts places.now) pid (state_numbered P.number (meaning state.old)) request.now) (Ok targets.now) }
     ensures ahead { IsAhead M (P.mounts places.now) pid request.now (state_numbered P.number (meaning state.old)) result }
     ensures noted { IsNotedOrSame pid request.now state.old state.new }
@@ -135,7 +132,7 @@ pub(crate) fn judge_call<T: Copy, const M: u8>(
     }
 }
 
-/// The same where marks are kept.
+/// The rule that a call broke on a machine that keeps marks.
 fn judge_ahead<T: Copy, const M: u8>(
     state: &State<T, M>,
     pid: u32,

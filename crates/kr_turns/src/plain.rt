@@ -1,16 +1,13 @@
 //! A call as the kernel carries it out.
-ghost use Rattle.std.specs.Prelude.{◌≡◌, ◌≢◌, ◌<◌, ◌^◌, ◌||◌, ℕ, suc, List, length, false, Ok, IfOk, IsSome, OnOk};
-ghost use Rattle.kr_steps.specs.law_allowed.Calls.{HasTextPaths, IsGivable};
-ghost use Rattle.kr_steps.specs.law_allowed.Told.{SourcesAreNamed};
+ghost use Rattle.std.specs.Prelude.{◌≡◌, ◌≢◌, ◌<◌, ◌^◌, ◌||◌, ℕ, suc, List, length, false, Ok, IfOk, OnOk};
 ghost use Rattle.kr_seen.specs.Carrying.{memory_of};
 ghost use Rattle.kr_turns.specs.Breaking.{nothing_reached, plain_rule, requested_rule, rule_told};
-ghost use Rattle.kr_steps.specs.Calls.{MayCall, Runs, IsNoExec};
+ghost use Rattle.kr_steps.specs.Calls.{CanBeMade, CanCall, IsNoExec, Runs};
 ghost use Rattle.kr_steps.specs.law_allowed.Texts.{IsText};
-ghost use Rattle.kr_seen.specs.kr_model.State.{process};
 ghost use Rattle.kr_seen.specs.kr_model.Walks.{targets_of};
 ghost use Rattle.kr_seen.specs.kr_model.declared.outcome.Outcome.TheVariants.{NoMemory as WantOfMemory};
 ghost use Rattle.kr_seen.specs.kr_ops.Meaning.{meaning};
-ghost use Rattle.kr_seen.specs.kr_ops.Sound.{IsSound};
+ghost use Rattle.kr_seen.specs.kr_ops.Sound.{IsSound, IsSoundFor};
 ghost use Rattle.kr_seen.specs.CallWalks.{AreTargets};
 ghost use Rattle.kr_seen.specs.Numbered.{state_numbered};
 ghost use Rattle.kr_execve.specs.kr_tree.Lawful.{AreBytes};
@@ -38,7 +35,7 @@ use std::alloc::Global;
 const SIGPIPE: u8 = 13;
 
 /// What became of the caller of a call.
-#[derive(Clone, Copy, Debug, PartialEq, Eq)]
+#[derive(Clone, Copy)]
 pub enum CallEnd {
     /// It was told an answer, and goes on behind the call.
     Answered,
@@ -74,10 +71,8 @@ pub fn plain_call<P: Places, const M: u8>(
     pid: u32,
     no_shelf: bool,
 ) -> Result<Plain, NoMemory>
-    requires named { SourcesAreNamed (P.mounts places.now) }
+    requires caller { CanCall P.number (P.mounts places.now) pid state.old }
     requires few_rows { length (P.mounts places.now) < 2 ^ 32 }
-    requires may { MayCall P.number (P.mounts places.now) state.old }
-    requires lives { IsSome (process pid (meaning state.old)) }
     ensures came { IfOk result (λ plain. came_to P.number state.new plain ≡ plain_call (P.mounts places.now) pid (state_numbered P.number (meaning state.old))) }
     ensures reach { IfOk result (λ plain. plain.reach ≡ plain_reach (P.mounts places.now) pid (state_numbered P.number (meaning state.old)) nothing_reached) }
     ensures rule { IfOk result (λ plain. plain.broken ≡ plain_rule M (P.mounts places.now) pid no_shelf (state_numbered P.number (meaning state.old))) }
@@ -101,12 +96,9 @@ fn carry_request<P: Places, const M: u8>(
     request: &Request,
     no_shelf: bool,
 ) -> Result<Plain, NoMemory>
-    requires given { IsGivable request.now }
-    requires paths { HasTextPaths request.now }
-    requires named { SourcesAreNamed (P.mounts places.now) }
+    requires request { CanBeMade request.now }
+    requires caller { CanCall P.number (P.mounts places.now) pid state.old }
     requires few_rows { length (P.mounts places.now) < 2 ^ 32 }
-    requires may { MayCall P.number (P.mounts places.now) state.old }
-    requires lives { IsSome (process pid (meaning state.old)) }
     ensures came { IfOk result (λ plain. came_to P.number state.new plain ≡ requested (P.mounts places.now) pid request.now (state_numbered P.number (meaning state.old))) }
     ensures reach { IfOk result (λ plain. plain.reach ≡ request_reach (P.mounts places.now) pid request.now (state_numbered P.number (meaning state.old)) nothing_reached) }
     ensures rule { IfOk result (λ plain. plain.broken ≡ requested_rule M (P.mounts places.now) pid no_shelf request.now (state_numbered P.number (meaning state.old))) }
@@ -142,10 +134,8 @@ fn replace<P: Places, const M: u8>(
 ) -> Result<Plain, NoMemory>
     requires text { IsText path.now }
     requires bytes { AreBytes path.now }
-    requires named { SourcesAreNamed (P.mounts places.now) }
+    requires caller { CanCall P.number (P.mounts places.now) pid state.old }
     requires few_rows { length (P.mounts places.now) < 2 ^ 32 }
-    requires may { MayCall P.number (P.mounts places.now) state.old }
-    requires lives { IsSome (process pid (meaning state.old)) }
     ensures came { IfOk result (λ plain. came_to P.number state.new plain ≡ executed (P.mounts places.now) pid path.now args env (state_numbered P.number (meaning state.old))) }
     ensures reach { IfOk result (λ plain. plain.reach ≡ request_reach (P.mounts places.now) pid (ExecveRequest path.now args env) (state_numbered P.number (meaning state.old)) nothing_reached) }
     ensures rule { IfOk result (λ plain. plain.broken ≡ requested_rule M (P.mounts places.now) pid no_shelf (ExecveRequest path.now args env) (state_numbered P.number (meaning state.old))) }
@@ -178,12 +168,9 @@ fn operate<P: Places, const M: u8>(
     no_shelf: bool,
 ) -> Result<Plain, NoMemory>
     requires kind { IsNoExec request.now }
-    requires given { IsGivable request.now }
-    requires paths { HasTextPaths request.now }
-    requires named { SourcesAreNamed (P.mounts places.now) }
+    requires request { CanBeMade request.now }
+    requires caller { CanCall P.number (P.mounts places.now) pid state.old }
     requires few_rows { length (P.mounts places.now) < 2 ^ 32 }
-    requires may { MayCall P.number (P.mounts places.now) state.old }
-    requires lives { IsSome (process pid (meaning state.old)) }
     ensures came { IfOk result (λ plain. came_to P.number state.new plain ≡ requested (P.mounts places.now) pid request.now (state_numbered P.number (meaning state.old))) }
     ensures reach { IfOk result (λ plain. plain.reach ≡ request_reach (P.mounts places.now) pid request.now (state_numbered P.number (meaning state.old)) nothing_reached) }
     ensures rule { IfOk result (λ plain. plain.broken ≡ requested_rule M (P.mounts places.now) pid no_shelf request.now (state_numbered P.number (meaning state.old))) }
@@ -291,8 +278,7 @@ fn handed_on<P: Places, const M: u8>(
     request: &Request,
     targets: &Targets<P::Mount>,
 ) -> Handed
-    requires sound { IsSound state.now }
-    requires lives { IsSome (process pid (meaning state.now)) }
+    requires { IsSoundFor pid state.now }
     ensures { (answer : _) → AreTargets P.number answer (Ok targets.now) → result ≡ handed_on (P.mounts places.now) pid request.now (state_numbered P.number (meaning state.now)) answer }
 {
     Handed {

@@ -1,16 +1,16 @@
 //! The inode to which the first path of a call led, or that of what stands in a path's place.
-ghost use Rattle.std.specs.Prelude.{◌≡◌, ℕ, Ok, IsSome};
+ghost use Rattle.std.specs.Prelude.{◌≡◌, ℕ, Ok};
 ghost use Rattle.std.specs.Option.{option_and_then};
 ghost use Rattle.kr_seen.specs.CallWalks.{AreTargets};
 ghost use Rattle.kr_seen.specs.kr_model.Asking.{descriptor_number, is_working_directory};
 ghost use Rattle.kr_seen.specs.kr_model.Known.{known};
-ghost use Rattle.kr_seen.specs.kr_model.State.{image_layout, process};
+ghost use Rattle.kr_seen.specs.kr_model.State.{image_layout};
 ghost use Rattle.kr_seen.specs.kr_ops.Meaning.{meaning};
-ghost use Rattle.kr_seen.specs.kr_ops.Sound.{IsSound};
+ghost use Rattle.kr_seen.specs.kr_ops.Sound.{IsSound, IsSoundFor};
 ghost use Rattle.kr_turns.specs.Target.{inode_at, inode_here, inode_instead, inode_under, instead_of, target_of};
 
 use kr_execve::below::{Place, Request};
-use kr_seen::below::{Host, State};
+use kr_seen::below::{AT_FDCWD, Host, State};
 use kr_seen::{Targets, is_processes_host};
 
 /// What stands in the place of a path that a call doesn't have, or whose path is empty.
@@ -22,9 +22,6 @@ pub(crate) enum Instead {
     DescriptorOrHere(i32),
 }
 
-/// AT_FDCWD, the working directory in place of a descriptor.
-const AT_FDCWD: i32 = -100;
-
 /// The inode to which the first path of a call led, or its descriptor, or the working directory in a path's place. `None` where there
 /// was none, of a pipe and of the console, of the process directory and of what is in it.
 pub(crate) fn target_of<T: Copy, const M: u8>(
@@ -33,8 +30,7 @@ pub(crate) fn target_of<T: Copy, const M: u8>(
     request: &Request,
     targets: &Targets<T>,
 ) -> Option<u64>
-    requires sound { IsSound state.now }
-    requires lives { IsSome (process pid (meaning state.now)) }
+    requires { IsSoundFor pid state.now }
     ensures { (number : T → ℕ) (answer : _) → AreTargets number answer (Ok targets.now) → result ≡ target_of request.now (known image_layout pid (meaning state.now)) answer }
 {
     match &targets.first {
@@ -65,8 +61,7 @@ fn inode_instead<T: Copy, const M: u8>(
     pid: u32,
     instead: Instead,
 ) -> Option<u64>
-    requires sound { IsSound state.now }
-    requires lives { IsSome (process pid (meaning state.now)) }
+    requires { IsSoundFor pid state.now }
     ensures { result ≡ inode_instead (known image_layout pid (meaning state.now)) instead }
 {
     match instead {
@@ -99,8 +94,7 @@ fn natural(fd: i32) -> Option<u32>
 
 /// The inode of what is open under a descriptor, or of the working directory where that stands in its place.
 fn inode_here<T: Copy, const M: u8>(state: &State<T, M>, pid: u32, dirfd: i32) -> Option<u64>
-    requires sound { IsSound state.now }
-    requires lives { IsSome (process pid (meaning state.now)) }
+    requires { IsSoundFor pid state.now }
     ensures { result ≡ inode_here (known image_layout pid (meaning state.now)) dirfd }
 {
     if is_working_directory(dirfd) {
@@ -118,8 +112,7 @@ fn is_working_directory(fd: i32) -> bool
 
 /// The object that is a process's working directory.
 fn working_directory<T: Copy, const M: u8>(state: &State<T, M>, pid: u32) -> Host
-    requires sound { IsSound state.now }
-    requires lives { IsSome (process pid (meaning state.now)) }
+    requires { IsSoundFor pid state.now }
     ensures { result ≡ (known image_layout pid (meaning state.now)).caller.cwd }
 {
     match state.index_of(pid) {

@@ -128,6 +128,7 @@ fn enter<P: Places, S: Stops, const M: u8>(
 {
     let mut here = Here::new(alloc, places, state, pid, NOTHING_HANDED, calls);
     let entered = stops.entry(&mut here);
+    // For the proof alone: the state is what was left at the stop.
     let _state = here.into_state();
     entered
 }
@@ -149,6 +150,7 @@ fn exit<P: Places, S: Stops, const M: u8>(
 {
     let mut here = Here::new(alloc, places, state, pid, handed, calls);
     let exited = stops.exit(&mut here);
+    // For the proof alone: the state is what was left at the stop.
     let _state = here.into_state();
     exited
 }

@@ -17,8 +17,9 @@ use Rattle.kr_tree.specs.pr_base.WalkLaws.{Shows}
 use Rattle.kr_tree.proofs.pr_base.EndLemmas.{EndsSo, walk_ends}
 use Rattle.kr_tree.proofs.pr_base.WalkLemmas.{walk-none}
 use Rattle.kr_view.proofs.JumpedLemmas.{jumped_own}
-use Rattle.kr_view.proofs.TableLemmas.{same_some, laws_of_places}
+use Rattle.kr_view.proofs.TableLemmas.{laws_of_places}
 use Rattle.kr_view.proofs.RestLemmas.{begun_has_parts}
+use Rattle.kr_tree.proofs.pr_base.TextLemmas.{some_is}
 
 -- from what is no directory nothing is shown
 pub looked_in : (around : Surroundings) (p : Place ℕ) (c : Component) (found : Option (Place ℕ)) → Shows (look_up around p c) found → is_directory_at around.space.tree p.host ≡ true
@@ -35,7 +36,7 @@ directory_there t i kind = at (inode t i) kind
   where
     at : (o : Option Inode) → option_map is_directory (option_map (λ x. x.node.body) o) ≡ Some true → option_map_or (λ x. is_directory x.node.body) o false ≡ true
     at None kind = absurd cc
-    at (Some x) kind = same_some (is_directory x.node.body) true kind
+    at (Some x) kind = some_is (is_directory x.node.body) true kind
 
 -- of mounts that stand in the tree the root place is a directory
 root_in : (around : Surroundings) → StandsIn around.space.tree around.space.table → is_directory_at around.space.tree (root_place around.space.table).host ≡ true

@@ -1,11 +1,11 @@
 -- Tables of mounts.
-use Rattle.std.proofs.Common.{◌≡◌, ℕ, ◌+◌, Bool, true, false, not, ◌&&◌, ◌||◌, zero, suc, List, [], ◌∷◌, length, get_or, Option, Some, None, nat_eq, nat_lt, bytes_eq, cond, refl, sym, ap, subst, ◌∙◌, arith}
+use Rattle.std.proofs.Common.{◌≡◌, ℕ, ◌+◌, Bool, true, false, not, ◌||◌, zero, suc, List, [], ◌∷◌, length, get_or, Option, Some, None, nat_eq, nat_lt, bytes_eq, cond, refl, sym, ap, subst, ◌∙◌, arith}
 use Rattle.std.specs.Prelude.{position}
 use Rattle.std.specs.Bool.{if◌then◌else◌}
 use Rattle.std.specs.Option.{option_map, option_map_or, option_and_then}
 use Rattle.std.proofs.lemmas.List.Quantifiers.{position-Some}
 use Rattle.std.proofs.lemmas.Bool.Decides.{nat_tests}
-use Rattle.std.proofs.lemmas.Bool.{eqb-true, eq-eqb}
+use Rattle.std.proofs.lemmas.Bool.{and_parts, eqb-true, eq-eqb}
 use Rattle.std.proofs.lemmas.Option.{slice_get-get_or}
 use Rattle.std.specs.List.{list_any, position_or_len}
 use Rattle.std.proofs.lemmas.Slice.Eq.{bytes_eq-Decides}
@@ -16,9 +16,7 @@ use Rattle.kr_tree.specs.Lawful.{IsSound}
 use Rattle.kr_tree.proofs.CountLemmas.{root_directory}
 use Rattle.kr_view.specs.View.{Point, Row, row, node_in, root_source, root_place, source_place, is_name_at, is_point, stands_at, down, point_place, up, is_there, covered, source, source_entry, plain, plain_row, IsTable, PointStands, StandsIn, IsAsSettled, ino_of}
 use Rattle.kr_view.specs.Laws.{IsSettledSource, IsDirectoryIn, LawsOfPlaces}
-
-pub same_some : {A : Type 0} (a b : A) → Some a ≡ Some b → a ≡ b
-same_some a b h = ap (λ o. option_map_or (λ s. s) o a) h
+use Rattle.kr_tree.proofs.pr_base.TextLemmas.{some_is}
 
 and_then : {A B : Type 0} (f : A → Option B) (o : Option A) (y : B) → option_and_then f o ≡ Some y → (x : A) × (o ≡ Some x) × (f x ≡ Some y)
 and_then f None y h = absurd cc
@@ -26,15 +24,11 @@ and_then f (Some x) y h = (x, refl, h)
 
 mapped : {A B : Type 0} (f : A → B) (o : Option A) (y : B) → option_map f o ≡ Some y → (x : A) × (o ≡ Some x) × (f x ≡ y)
 mapped f None y h = absurd cc
-mapped f (Some x) y h = (x, refl, same_some (f x) y h)
+mapped f (Some x) y h = (x, refl, some_is (f x) y h)
 
 -- the first row that passes a test is there, and passes
 pub first_passes : (test : Row → Bool) (table : List Row) (k : ℕ) → position test table ≡ Some k → (r : Row) × (row table k ≡ Some r) × (test r ≡ true)
 first_passes test table k h = let found = position-Some test table k plain_row h in (get_or table k plain_row, slice_get-get_or table k plain_row found.0, found.1)
-
-both : (a b : Bool) → (a && b) ≡ true → (a ≡ true) × (b ≡ true)
-both true b h = (refl, h)
-both false b h = absurd cc
 
 pub point_there : (test : Point → Bool) (r : Row) → stands_at test r ≡ true → (p : Point) × (r.point ≡ Some p) × (test p ≡ true)
 point_there test r h = at r.point refl h
@@ -45,10 +39,10 @@ point_there test r h = at r.point refl h
 
 name_at_is : (dir : ℕ) (name : List ℕ) (p : Point) → is_name_at dir name p ≡ true → (p.dir ≡ dir) × (p.name ≡ name)
 name_at_is dir name p h =
-    let two = both (nat_eq p.dir dir) (bytes_eq p.name name) h in (eqb-true p.dir dir two.0, (bytes_eq-Decides p.name name).0 two.1)
+    let two = and_parts (nat_eq p.dir dir) (bytes_eq p.name name) h in (eqb-true p.dir dir two.0, (bytes_eq-Decides p.name name).0 two.1)
 
 point_is : (mount dir : ℕ) (name : List ℕ) (p : Point) → is_point mount dir name p ≡ true → (p.mount ≡ mount) × (is_name_at dir name p ≡ true)
-point_is mount dir name p h = let two = both (nat_eq p.mount mount) (is_name_at dir name p) h in (eqb-true p.mount mount two.0, two.1)
+point_is mount dir name p h = let two = and_parts (nat_eq p.mount mount) (is_name_at dir name p) h in (eqb-true p.mount mount two.0, two.1)
 
 -- the row whose mount a point enters
 pub down_row : (table : List Row) (mount dir : ℕ) (name : List ℕ) (q : Place ℕ) → down table mount dir name ≡ Some q
@@ -57,7 +51,7 @@ down_row table mount dir name q h =
     let found = and_then (source_place table) (position (stands_at (is_point mount dir name)) table) q h in
     let there = mapped (λ r. node_in found.0 r.source) (row table found.0) q found.2 in
     let first = first_passes (stands_at (is_point mount dir name)) table found.0 found.1 in
-    let one : first.0 ≡ there.0 = same_some first.0 there.0 (sym first.1 ∙ there.1) in
+    let one : first.0 ≡ there.0 = some_is first.0 there.0 (sym first.1 ∙ there.1) in
     let mount_is : found.0 ≡ q.mount = ap (λ p. p.mount) there.2 in (
       there.0,
       sym (ap (row table) mount_is) ∙ there.1,
@@ -118,7 +112,7 @@ module _ (t : Tree) (table : List Row) (stands : StandsIn t table) where
     where
       first : (table : List Row) (r : Row) → row table 0 ≡ Some r → root_source table ≡ r.source
       first [] r h = absurd cc
-      first (s ∷ rows) r h = ap (λ r. r.source) (same_some s r h)
+      first (s ∷ rows) r h = ap (λ r. r.source) (some_is s r h)
 
   root_settled : IsSettledSource t table (root_place table)
   root_settled = settled (root_place table) stands.rooted.0 stands.rooted.1 (ap (node_in 0) source_of_root)
@@ -196,7 +190,7 @@ no_row : {A : Type 0} (k : ℕ) (r : Row) → row plain (suc k) ≡ Some r → A
 no_row k r h = absurd cc
 
 only_row : (k : ℕ) (r : Row) → row plain k ≡ Some r → (k ≡ 0) × (plain_row ≡ r)
-only_row zero r h = (refl, same_some plain_row r h)
+only_row zero r h = (refl, some_is plain_row r h)
 only_row (suc k) r h = no_row k r h
 
 no_names : AreNames []
@@ -223,11 +217,11 @@ plain_in_tree t sound = record {
 }
   where
     sources : (k : ℕ) (r : Row) → row plain k ≡ Some r → option_map is_directory (body t r.source) ≡ Some r.is_dir
-    sources zero r h = let P : Row → Type 0 = λ r. option_map is_directory (body t r.source) ≡ Some r.is_dir in subst P (same_some plain_row r h) (directory_kind t root (root_directory t sound))
+    sources zero r h = let P : Row → Type 0 = λ r. option_map is_directory (body t r.source) ≡ Some r.is_dir in subst P (some_is plain_row r h) (directory_kind t root (root_directory t sound))
     sources (suc k) r h = absurd cc
 
     points : (k : ℕ) (r : Row) (p : Point) → row plain k ≡ Some r → r.point ≡ Some p → PointStands t k p
-    points zero r p h is = let none : None ≡ Some p = ap (λ r. r.point) (same_some plain_row r h) ∙ is in absurd cc
+    points zero r p h is = let none : None ≡ Some p = ap (λ r. r.point) (some_is plain_row r h) ∙ is in absurd cc
     points (suc k) r p h is = absurd cc
 
 -- its one source is a directory
@@ -251,5 +245,5 @@ settled_entry t table k r e settled there is = at r.is_dir refl (sym (ap (option
     at : (b : Bool) → r.is_dir ≡ b → (if r.is_dir then None else Some (r.source_dir, r.source_name)) ≡ Some e → entry t e.0 e.1 ≡ Some r.source
     at true kind h = let clash : None ≡ Some e = sym (ap (λ b. if b then None else Some (r.source_dir, r.source_name)) kind) ∙ h in absurd cc
     at false kind h =
-        let one = same_some (r.source_dir, r.source_name) e (sym (ap (λ b. if b then None else Some (r.source_dir, r.source_name)) kind) ∙ h) in
+        let one = some_is (r.source_dir, r.source_name) e (sym (ap (λ b. if b then None else Some (r.source_dir, r.source_name)) kind) ∙ h) in
         ap (λ (e : ℕ × List ℕ). entry t e.0 e.1) (sym one) ∙ settled.entered k r there kind

@@ -1,6 +1,6 @@
 -- What a walk reaches: the longest host name of a place or free name, its base included, and whether it
 -- looks up a name in the process directory. A place without a name doesn't count.
-use Rattle.std.specs.Prelude.{ℕ, ◌≤◌, ◌≡◌, Bool, true, false, ◌||◌, List, [], ◌∷◌, length, max, Option, Some, None, Result, Ok, Err, if◌then◌else◌}
+use Rattle.std.specs.Prelude.{ℕ, ◌≤◌, ◌≡◌, Bool, true, false, ◌||◌, not, List, [], ◌∷◌, length, max, Option, Some, None, Result, Ok, Err, if◌then◌else◌}
 use Rattle.std.specs.Option.{option_map}
 use Rattle.kr_tree.specs.pr_base.Paths.{Component, text_of, below_root}
 use Rattle.kr_tree.specs.pr_base.WalkFrame.{Fails, Missing, Leads, Links, Jumps, Landing, LookedAt}
@@ -118,3 +118,13 @@ reach_after around mode trail r = end_reach around.space trail.answer (landings_
 pub record Covers (more less : Reach) : Type 0 where
   pub longest : less.longest ≤ more.longest
   pub met_proc : less.met_proc ≡ true → more.met_proc ≡ true
+
+-- ---- steady walks
+
+-- nothing was reached yet
+abbrev pub nothing : Reach
+nothing = record { longest = 0; met_proc = false }
+
+-- a walk in a mode is steady where it looks up no name in the process directory
+abbrev pub is_steady : Surroundings → WalkMode → PlaceTrail → Bool
+is_steady around mode trail = not (reach_after around mode trail nothing).met_proc

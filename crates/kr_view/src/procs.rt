@@ -5,7 +5,7 @@ use kr_tree::{Ino, Place, ProcAt};
 use std::marker::PhantomData;
 
 /// Where a link of the process directory leads.
-#[derive(Debug, Drop)]
+#[derive(Drop)]
 pub enum Lead<M> {
     /// To what a text names.
     Text(Bytes),
@@ -47,7 +47,7 @@ pub trait Procs {
 }
 
 /// A process directory without names, as it is before a process lives.
-#[derive(Clone, Copy, Debug)]
+#[derive(Clone, Copy)]
 pub struct NoProcs<M> {
     mounts: PhantomData<M>,
 }

@@ -4,7 +4,7 @@ use kr_tree::Place;
 use kr_tree::below::pr_base::{Bytes, Errno, Last, NoMemory};
 
 /// Where a path leads.
-#[derive(Debug, Drop)]
+#[derive(Drop)]
 pub struct Target<M> {
     /// The directory of the last component.
     pub dir: Place<M>,
@@ -18,7 +18,7 @@ pub struct Target<M> {
 }
 
 /// Why a walk gives no target.
-#[derive(Clone, Copy, Debug, PartialEq, Eq)]
+#[derive(Clone, Copy)]
 pub enum WalkFault {
     Err(Errno),
     NoMemory,
@@ -36,7 +36,7 @@ impl From<NoMemory> for WalkFault {
 }
 
 /// What walks reached so far.
-#[derive(Clone, Copy, Debug, PartialEq, Eq)]
+#[derive(Clone, Copy)]
 pub struct Reach {
     /// The length of the longest host name of a place or free name.
     pub longest: u64,

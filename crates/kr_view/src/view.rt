@@ -5,7 +5,7 @@ use kr_tree::{Host, Ino, Place, ROOT};
 /// A mount as it was settled: its source with the host directory and name at which that was found,
 /// and the directory and name of its mount point. The root's row has directory 0 and an empty name
 /// in place of a mount point, and a source that is the host's `/` has them in place of its own.
-#[derive(Clone, Copy, Debug)]
+#[derive(Clone, Copy)]
 pub struct MountRow<'a> {
     pub source: Ino,
     pub source_dir: Ino,
@@ -71,11 +71,11 @@ pub trait Places {
 }
 
 /// The one mount of the host's own view.
-#[derive(Clone, Copy, Debug, PartialEq, Eq)]
+#[derive(Clone, Copy)]
 pub struct HostMount;
 
 /// The host's own view: one mount, whose source is the root of the host.
-#[derive(Clone, Copy, Debug, PartialEq, Eq)]
+#[derive(Clone, Copy)]
 pub struct Plain;
 
 impl Plain {

@@ -7,7 +7,7 @@ ghost use Rattle.kr_view.specs.kr_tree.pr_base.WalkFrame.{name_of};
 use kr_view::below::pr_base::Last;
 
 /// A component of a path.
-#[derive(Clone, Copy, Debug)]
+#[derive(Clone, Copy)]
 pub(crate) enum Component<'a> {
     Dot,
     DotDot,

@@ -26,6 +26,7 @@ use crate::rest::Rest;
 use crate::rests::{Rests, Taken};
 use crate::surroundings::{Sight, Surroundings};
 use kr_view::below::kr_tree::{Host, Ino, Place, ProcAt, Tree, User};
+use kr_view::below::pr_base::limits::MOST_LINKS;
 use kr_view::below::pr_base::{Bytes, Errno, Last, NoMemory, WalkMode, components};
 use kr_view::{Lead, Places, Procs, Reach, Target, WalkFault};
 use std::alloc::Global;
@@ -46,9 +47,6 @@ pub(crate) enum Step<M> {
     Goes(Walk<M>),
     Ends(Target<M>),
 }
-
-/// How many links a walk follows at most.
-const MOST_LINKS: u32 = 40;
 
 /// Whether a link is followed as the last component.
 fn is_followed(mode: WalkMode, slash: bool) -> bool

@@ -14,10 +14,11 @@ use Rattle.law_lawful.specs.kr_model.Asking.{is_processes, is_working_directory}
 use Rattle.law_lawful.specs.kr_model.AttributeRows.{chmod_host, fchmod_row, fchmodat_row, unchanged as all_ones, or_old, may_give, chown_by, chown_host, chown_open, fchown_row, fchownat_row, fchownat_here}
 use Rattle.law_lawful.specs.kr_model.Change.{Change, SetOwner}
 use Rattle.law_lawful.specs.kr_model.Known.{Known, known, known_node}
+use Rattle.law_lawful.specs.kr_model.Seen.{Looked}
 use Rattle.law_lawful.specs.kr_model.State.{Image, image_layout, State, process}
 use Rattle.law_lawful.specs.Laws.{CanAllBeMade}
 use Rattle.law_lawful.proofs.AfterLemmas.{is-some}
-use Rattle.law_allowed.specs.Laws.{AttributeRowsAreAllowed}
+use Rattle.law_allowed.specs.Allowed.{IsAllowed, IsAllowedWhere}
 use Rattle.law_allowed.specs.Resting.{HasSmallNumbers}
 use Rattle.law_allowed.proofs.KnownLemmas.{maybe, by-open}
 use Rattle.law_allowed.proofs.NodeLemmas.{known-inode}
@@ -76,12 +77,20 @@ module _ {M : Type 0} (number : M → ℕ) (table : List Row) (mounts : Mounts M
     fchownat-here : (fd : ℤ) → Allowed Can false (fchownat_here k fd uid gid)
     fchownat-here fd = either (is_working_directory fd) (λ _. owner-host k.caller.cwd) (λ _. fchown fd)
 
-pub attribute-rows : (M : Type 0) → AttributeRowsAreAllowed M
+-- calls on the attributes of a file, whose owners are told in 32 bits
+pub record AreAttributeRowsAllowed {M : Type 0} (number : M → ℕ) (table : List Row) (mounts : Mounts M) (pid : ℕ) : Type 0 where
+  pub fchmod : (fd : ℤ) (mode : ℕ) → IsAllowed number table mounts pid (λ k. fchmod_row k fd mode)
+  pub fchmodat : (l : Looked) (mode : ℕ) → IsAllowed number table mounts pid (λ k. fchmodat_row k l mode)
+  pub fchown : (fd : ℤ) (uid gid : ℕ) → uid < 2 ^ 32 → gid < 2 ^ 32 → IsAllowedWhere number table mounts pid HasSmallNumbers (λ k. fchown_row k fd uid gid)
+  pub fchownat : (l : Looked) (uid gid : ℕ) → uid < 2 ^ 32 → gid < 2 ^ 32 → IsAllowedWhere number table mounts pid HasSmallNumbers (λ k. fchownat_row k l uid gid)
+  pub here : (fd : ℤ) (uid gid : ℕ) → uid < 2 ^ 32 → gid < 2 ^ 32 → IsAllowedWhere number table mounts pid HasSmallNumbers (λ k. fchownat_here k fd uid gid)
+
+pub attribute-rows : (M : Type 0) (number : M → ℕ) (table : List Row) (mounts : Mounts M) (pid : ℕ) → AreAttributeRowsAllowed number table mounts pid
 attribute-rows M number table mounts pid = record {
   fchmod = λ fd mode. row-allowed number table mounts pid (λ t next. Unit {0}) (λ k. fchmod_row k fd mode) (λ s l lives rests. fchmod number table mounts pid s lives fd mode);
   fchmodat = λ l mode. row-allowed number table mounts pid (λ t next. Unit {0}) (λ k. fchmodat_row k l mode) (λ s l2 lives rests. mode-host number table mounts pid s lives mode l.host);
   fchown = λ fd uid gid uids gids. row-allowed number table mounts pid HasSmallNumbers (λ k. fchown_row k fd uid gid) (λ s l lives rests. fchown number table mounts pid s lives rests uid gid uids gids fd);
   fchownat = λ l uid gid uids gids. row-allowed number table mounts pid HasSmallNumbers (λ k. fchownat_row k l uid gid) (λ s l2 lives rests. owner-host number table mounts pid s lives rests uid gid uids gids l.host);
-  fchownat_here = λ fd uid gid uids gids.
+  here = λ fd uid gid uids gids.
       row-allowed number table mounts pid HasSmallNumbers (λ k. fchownat_here k fd uid gid) (λ s l lives rests. fchownat-here number table mounts pid s lives rests uid gid uids gids fd);
 }

@@ -18,7 +18,7 @@ use Rattle.law_lawful.specs.kr_model.DescriptorRows.{o_cloexec, most_pipes, open
 use Rattle.law_lawful.specs.kr_model.Known.{Known, known}
 use Rattle.law_lawful.specs.kr_model.State.{Image, image_layout, State, process, opened}
 use Rattle.law_lawful.specs.Laws.{CanAllBeMade}
-use Rattle.law_allowed.specs.Laws.{DescriptorRowsAreAllowed}
+use Rattle.law_allowed.specs.Allowed.{IsAllowed}
 use Rattle.law_allowed.proofs.KnownLemmas.{is-less, not-most, maybe, open-named, at-number, by-open, free-lowest, free-apart, free-pair}
 use Rattle.law_allowed.specs.Lasting.{AreModest}
 use Rattle.law_allowed.proofs.RowLemmas.{quietly, Allowed, unchanged, ended, tested, wrote, either, row-allowed}
@@ -111,7 +111,17 @@ module _ {M : Type 0} (number : M → ℕ) (table : List Row) (mounts : Mounts M
   lseek : (fd off whence : ℤ) → Allowed Can false (lseek_row k fd off whence)
   lseek fd off whence = by-open pid s fd _ (λ n o e. sought-what off whence n (open-named pid s n o e) (without_mount o) o.what)
 
-pub descriptor-rows : (M : Type 0) → DescriptorRowsAreAllowed M
+-- calls on descriptors
+pub record AreDescriptorRowsAllowed {M : Type 0} (number : M → ℕ) (table : List Row) (mounts : Mounts M) (pid : ℕ) : Type 0 where
+  pub dup : (fd : ℤ) → IsAllowed number table mounts pid (λ k. dup_row k fd)
+  -- of two descriptors: decoding refuses one and the same
+  pub dup3 : (old new : ℤ) (flags : ℕ) → old ≢ new → IsAllowed number table mounts pid (λ k. dup3_row k old new flags)
+  pub fcntl : (fd cmd : ℤ) (arg : ℕ) → IsAllowed number table mounts pid (λ k. fcntl_row k fd cmd arg)
+  pub close : (fd : ℤ) → IsAllowed number table mounts pid (λ k. close_row k fd)
+  pub pipe2 : (buf flags : ℕ) → IsAllowed number table mounts pid (λ k. pipe2_row k buf flags)
+  pub lseek : (fd off whence : ℤ) → IsAllowed number table mounts pid (λ k. lseek_row k fd off whence)
+
+pub descriptor-rows : (M : Type 0) (number : M → ℕ) (table : List Row) (mounts : Mounts M) (pid : ℕ) → AreDescriptorRowsAllowed number table mounts pid
 descriptor-rows M number table mounts pid = record {
   dup = λ fd. row-allowed number table mounts pid (λ t next. Unit {0}) (λ k. dup_row k fd) (λ s l lives rests. dup number table mounts pid s lives fd);
   dup3 = λ old new flags apart. row-allowed number table mounts pid (λ t next. Unit {0}) (λ k. dup3_row k old new flags) (λ s l lives rests. dup3 number table mounts pid s lives old new flags apart);

@@ -19,7 +19,7 @@ use Rattle.law_lawful.specs.kr_model.Reply.{Replying, done, refuse}
 use Rattle.law_lawful.specs.kr_model.Seen.{Looked}
 use Rattle.law_lawful.specs.kr_model.State.{Image, image_layout, State, process, opened}
 use Rattle.law_lawful.specs.Laws.{CanAllBeMade}
-use Rattle.law_allowed.specs.Laws.{DirectoryRowsAreAllowed}
+use Rattle.law_allowed.specs.Allowed.{IsAllowed, IsAllowedWhere}
 use Rattle.law_allowed.specs.Resting.{HasSmallNumbers, IsLookedIn}
 use Rattle.law_allowed.proofs.FileLemmas.{open-lawful}
 use Rattle.law_allowed.proofs.KnownLemmas.{maybe, open-named, by-open}
@@ -85,7 +85,13 @@ module _ {M : Type 0} (number : M → ℕ) (table : List Row) (mounts : Mounts M
       by n o e None placed = refuses ENOTDIR
       by n o e (Some p) placed = entered p.host _ (λ directory. ended ((lives, (stands-open n o e p placed, directory), tt), quietly refl))
 
-pub directory-rows : (M : Type 0) → DirectoryRowsAreAllowed M
+-- calls that read directories, whose serials are told in 63 bits, and change to them
+pub record AreDirectoryRowsAllowed {M : Type 0} (number : M → ℕ) (table : List Row) (mounts : Mounts M) (pid : ℕ) : Type 0 where
+  pub getdents64 : (fd : ℤ) (buf : ℕ) (n : ℤ) → IsAllowedWhere number table mounts pid HasSmallNumbers (λ k. getdents64_row k fd buf n)
+  pub chdir : (looked : Looked) → IsAllowedWhere number table mounts pid (λ t next. IsLookedIn number table mounts t looked) (λ k. chdir_row k looked)
+  pub fchdir : (fd : ℤ) → IsAllowed number table mounts pid (λ k. fchdir_row k fd)
+
+pub directory-rows : (M : Type 0) (number : M → ℕ) (table : List Row) (mounts : Mounts M) (pid : ℕ) → AreDirectoryRowsAllowed number table mounts pid
 directory-rows M number table mounts pid = record {
   getdents64 = λ fd buf n. row-allowed number table mounts pid HasSmallNumbers (λ k. getdents64_row k fd buf n) (λ s l lives rests. getdents64 number table mounts pid s l lives rests fd buf n);
   chdir = λ looked. row-allowed number table mounts pid (λ t next. IsLookedIn number table mounts t looked) (λ k. chdir_row k looked) (λ s l lives rests. chdir number table mounts pid s l lives looked rests);

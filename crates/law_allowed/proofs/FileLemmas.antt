@@ -35,7 +35,7 @@ use Rattle.law_lawful.specs.kr_model.Pieces.{Piece, asked, cut_to, one_piece}
 use Rattle.law_lawful.specs.kr_model.Reply.{Replying}
 use Rattle.law_lawful.specs.kr_model.State.{Image, image_layout, State, process, named, opened}
 use Rattle.law_lawful.specs.Laws.{CanAllBeMade}
-use Rattle.law_allowed.specs.Laws.{FileRowsAreAllowed}
+use Rattle.law_allowed.specs.Allowed.{IsAllowed}
 use Rattle.law_allowed.proofs.KnownLemmas.{not-less, not-most, open-named, by-open}
 use Rattle.law_allowed.proofs.PieceLemmas.{asked-cut, usable, all-read, handed, listed}
 use Rattle.law_allowed.specs.Lasting.{AreModest}
@@ -243,7 +243,15 @@ module _ {M : Type 0} (number : M → ℕ) (table : List Row) (mounts : Mounts M
   pub ftruncate-row : (fd : ℤ) (len : ℕ) → Allowed Can false (ftruncate_row k fd len)
   ftruncate-row fd len = by-open pid s fd _ (λ n o e. cut o (open-lawful n o e) len)
 
-pub file-rows : (M : Type 0) → FileRowsAreAllowed M
+-- calls that read, write and cut files
+pub record AreFileRowsAllowed {M : Type 0} (number : M → ℕ) (table : List Row) (mounts : Mounts M) (pid : ℕ) : Type 0 where
+  pub read : (fd : ℤ) (buf n : ℕ) → IsAllowed number table mounts pid (λ k. read_row k fd buf n)
+  pub readv : (fd : ℤ) (list count : ℕ) → IsAllowed number table mounts pid (λ k. readv_row k fd list count)
+  pub write : (fd : ℤ) (buf n : ℕ) → IsAllowed number table mounts pid (λ k. write_row k fd buf n)
+  pub writev : (fd : ℤ) (list count : ℕ) → IsAllowed number table mounts pid (λ k. writev_row k fd list count)
+  pub ftruncate : (fd : ℤ) (len : ℕ) → IsAllowed number table mounts pid (λ k. ftruncate_row k fd len)
+
+pub file-rows : (M : Type 0) (number : M → ℕ) (table : List Row) (mounts : Mounts M) (pid : ℕ) → AreFileRowsAllowed number table mounts pid
 file-rows M number table mounts pid = record {
   read = λ fd buf n. row-allowed number table mounts pid (λ t next. Unit {0}) (λ k. read_row k fd buf n) (λ s l lives rests. read-row number table mounts pid s l lives fd buf n);
   readv = λ fd list count. row-allowed number table mounts pid (λ t next. Unit {0}) (λ k. readv_row k fd list count) (λ s l lives rests. readv-row number table mounts pid s l lives fd list count);

@@ -5,6 +5,7 @@ use Rattle.std.specs.Prelude.{◌==◌, nat_le, map as map_list}
 use Rattle.std.specs.Option.{IfSome, option_map}
 use Rattle.std.proofs.lemmas.Grind.{div_ceil_times}
 use Rattle.std.proofs.lemmas.Bool.Decides.{nat_tests}
+use Rattle.std.proofs.lemmas.Bool.{or_parts}
 use Rattle.law_lawful.specs.pr_base.declared.errno.Errno.TheVariants.{ENOMEM}
 use Rattle.law_lawful.specs.rv_mem.declared.rights.Rights.{Rights}
 use Rattle.law_lawful.specs.rv_mem.Layout.{Layout, layout_of}
@@ -24,9 +25,8 @@ use Rattle.law_lawful.specs.kr_model.MemoryRows.{pages_end, page_count, rights_o
 use Rattle.law_lawful.specs.kr_model.State.{Image, image_layout, Process, State, at_pid, process}
 use Rattle.law_lawful.specs.Laws.{CanAllBeMade}
 use Rattle.law_lawful.proofs.AfterLemmas.{some-of}
-use Rattle.law_lawful.proofs.OwnChangeLemmas.{neither}
 use Rattle.law_lawful.proofs.ProcessChangeLemmas.{found}
-use Rattle.law_allowed.specs.Laws.{MemoryRowsAreAllowed}
+use Rattle.law_allowed.specs.Allowed.{IsAllowed}
 use Rattle.law_allowed.proofs.KnownLemmas.{is-less, not-less, maybe, caller-is}
 use Rattle.law_allowed.specs.Lasting.{AreModest}
 use Rattle.law_allowed.proofs.RowLemmas.{quietly, Allowed, unchanged, refuses, ended, either, row-allowed}
@@ -103,7 +103,7 @@ module _ {M : Type 0} (number : M → ℕ) (table : List Row) (mounts : Mounts M
       → ((p : Process M Image) → process pid s ≡ Some p → map.len (mapped p.image.memory.pages first count rights) + there ≤ map.len p.image.memory.pages + count) → CanChange (MapPages first count rights)
   can-map first count there rights low limit fits = can-fewer (MapPages first count rights) (λ p e.
       let own = l.processes pid p e in
-      let both = neither (nat_lt process_pages (map.len k.caller.layout + count - there)) (nat_lt all_pages (k.pages + count - there)) limit in
+      let both = or_parts (nat_lt process_pages (map.len k.caller.layout + count - there)) (nat_lt all_pages (k.pages + count - there)) limit in
       let few = not-less process_pages (map.len k.caller.layout + count - there) both.0 in
       let room = not-less all_pages (k.pages + count - there) both.1 in
       let layout = ap (λ (c : Caller). map.len c.layout) (caller-is pid s p e) in
@@ -148,7 +148,7 @@ module _ {M : Type 0} (number : M → ℕ) (table : List Row) (mounts : Mounts M
       let below = pages-below a high in
       either (passes_limit k count 0 || has_page k.caller.layout first count) (λ _. unchanged)
       (λ fits. ended (with-break (MapPages first count rights) a low high
-      (can-map first count 0 rights (omega arith) (neither (passes_limit k count 0) (has_page k.caller.layout first count) fits).0
+      (can-map first count 0 rights (omega arith) (or_parts (passes_limit k count 0) (has_page k.caller.layout first count) fits).0
       (λ p e. let all = mapped-count p.image.memory.pages first count rights in omega arith))))
 
   shrunk : (a : ℕ) → k.caller.brk_start ≤ a → a ≤ pages_end → Allowed Can false (shrink k a)
@@ -158,7 +158,7 @@ module _ {M : Type 0} (number : M → ℕ) (table : List Row) (mounts : Mounts M
   brk a =
       either (nat_lt a k.caller.brk_start || nat_lt pages_end a) (λ _. unchanged)
       (λ inside.
-      let both = neither (nat_lt a k.caller.brk_start) (nat_lt pages_end a) inside in
+      let both = or_parts (nat_lt a k.caller.brk_start) (nat_lt pages_end a) inside in
       let low = not-less a k.caller.brk_start both.0 in
       let high = not-less pages_end a both.1 in
       either (nat_lt (page_count k.caller.brk) (page_count a)) (λ more. grown a low high (is-less (page_count k.caller.brk) (page_count a) more)) (λ _. shrunk a low high))
@@ -187,7 +187,7 @@ module _ {M : Type 0} (number : M → ℕ) (table : List Row) (mounts : Mounts M
       fixed : (first count : ℕ) → Allowed Can false (map_fixed k first count prot)
       fixed first count =
           either (nat_lt first lowest_page || nat_lt places_end (first + count)) (λ _. refuses ENOMEM)
-          (λ inside. mapped-at first count prot (not-less places_end (first + count) (neither (nat_lt first lowest_page) (nat_lt places_end (first + count)) inside).1))
+          (λ inside. mapped-at first count prot (not-less places_end (first + count) (or_parts (nat_lt first lowest_page) (nat_lt places_end (first + count)) inside).1))
 
       free : (count : ℕ) → Allowed Can false (map_free k count prot)
       free count =
@@ -199,7 +199,14 @@ module _ {M : Type 0} (number : M → ℕ) (table : List Row) (mounts : Mounts M
   mprotect : (a len prot : ℕ) → Allowed Can false (mprotect_row k a len prot)
   mprotect a len prot = either (not (mapped_among k.caller.layout (a / 4096) (page_count len) == page_count len)) (λ _. refuses ENOMEM) (λ _. ended ((lives, can-protect (a / 4096) (page_count len) (rights_of prot), tt), quietly refl))
 
-pub memory-rows : (M : Type 0) → MemoryRowsAreAllowed M
+-- calls on the caller's pages
+pub record AreMemoryRowsAllowed {M : Type 0} (number : M → ℕ) (table : List Row) (mounts : Mounts M) (pid : ℕ) : Type 0 where
+  pub brk : (a : ℕ) → IsAllowed number table mounts pid (λ k. brk_row k a)
+  pub mmap : (a len prot flags : ℕ) → IsAllowed number table mounts pid (λ k. mmap_row k a len prot flags)
+  pub munmap : (a len : ℕ) → IsAllowed number table mounts pid (λ k. munmap_row a len)
+  pub mprotect : (a len prot : ℕ) → IsAllowed number table mounts pid (λ k. mprotect_row k a len prot)
+
+pub memory-rows : (M : Type 0) (number : M → ℕ) (table : List Row) (mounts : Mounts M) (pid : ℕ) → AreMemoryRowsAllowed number table mounts pid
 memory-rows M number table mounts pid = record {
   brk = λ a. row-allowed number table mounts pid (λ t next. Unit {0}) (λ k. brk_row k a) (λ s l lives rests. brk number table mounts pid s l lives a);
   mmap = λ a len prot flags. row-allowed number table mounts pid (λ t next. Unit {0}) (λ k. mmap_row k a len prot flags) (λ s l lives rests. mmap number table mounts pid s l lives a len prot flags);

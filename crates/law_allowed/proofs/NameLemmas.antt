@@ -26,7 +26,7 @@ use Rattle.law_lawful.specs.kr_model.Reply.{Replying, refuse}
 use Rattle.law_lawful.specs.kr_model.Seen.{Looked, Entered, Taken, TakesNoName, TakesCovered, Takes, Made, MakesNoName, MakesOver, Makes}
 use Rattle.law_lawful.specs.kr_model.State.{Image, image_layout, State, process}
 use Rattle.law_lawful.specs.Laws.{CanAllBeMade}
-use Rattle.law_allowed.specs.Laws.{NameRowsAreAllowed}
+use Rattle.law_allowed.specs.Allowed.{IsAllowedWhere}
 use Rattle.law_allowed.specs.Resting.{IsFreeIn, IsEntryIn, IsLookedIn, IsTakenIn, IsMadeIn}
 use Rattle.law_allowed.proofs.AboveLemmas.{not-below}
 use Rattle.law_allowed.proofs.KnownLemmas.{maybe}
@@ -288,7 +288,17 @@ module _ {M : Type 0} (number : M → ℕ) (table : List Row) (mounts : Mounts M
   renameat2 old new is_old is_new same_mount =
       either (not same_mount) (λ _. refuses EXDEV) (λ _. either (not (ends_in_name old && ends_in_name new)) (λ _. refuses EBUSY) (λ _. taken-moved old new is_old is_new))
 
-pub name-rows : (M : Type 0) → NameRowsAreAllowed M
+-- calls that change names
+pub record AreNameRowsAllowed {M : Type 0} (number : M → ℕ) (table : List Row) (mounts : Mounts M) (pid : ℕ) : Type 0 where
+  pub mkdirat : (made : Made) (mode : ℕ) → IsAllowedWhere number table mounts pid (λ t next. IsMadeIn number table mounts t made) (λ k. mkdirat_row k made mode)
+  pub unlinkat : (taken : Taken) (flags : ℕ) → IsAllowedWhere number table mounts pid (λ t next. IsTakenIn number table mounts t taken) (λ k. unlinkat_row k taken flags)
+  pub symlinkat : (made : Made) (text : List ℕ) → AreBytes text → IsText text → IsAllowedWhere number table mounts pid (λ t next. IsMadeIn number table mounts t made) (λ k. symlinkat_row k made text)
+  pub linkat : (old : Looked) (made : Made) (same_mount : Bool)
+      → IsAllowedWhere number table mounts pid (λ t next. IsLookedIn number table mounts t old × IsMadeIn number table mounts t made) (λ k. linkat_row k old made same_mount)
+  pub renameat2 : (old new : Taken) (same_mount : Bool)
+      → IsAllowedWhere number table mounts pid (λ t next. IsTakenIn number table mounts t old × IsTakenIn number table mounts t new) (λ k. renameat2_row k old new same_mount)
+
+pub name-rows : (M : Type 0) (number : M → ℕ) (table : List Row) (mounts : Mounts M) (pid : ℕ) → AreNameRowsAllowed number table mounts pid
 name-rows M number table mounts pid = record {
   mkdirat = λ m mode. row-allowed number table mounts pid (λ t next. IsMadeIn number table mounts t m) (λ k. mkdirat_row k m mode) (λ s l lives rests. directory-made number table mounts pid s l lives m rests mode);
   unlinkat = λ taken flags. row-allowed number table mounts pid (λ t next. IsTakenIn number table mounts t taken) (λ k. unlinkat_row k taken flags) (λ s l lives rests. unlinkat number table mounts pid s l lives taken rests flags);

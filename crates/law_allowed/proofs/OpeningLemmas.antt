@@ -34,7 +34,7 @@ use Rattle.law_lawful.specs.kr_model.Seen.{Looked, Opening, OpensNoName, OpensSl
 use Rattle.law_lawful.specs.kr_model.State.{Image, image_layout, Process, State, process, with_descs}
 use Rattle.law_lawful.specs.Laws.{CanAllBeMade}
 use Rattle.law_lawful.proofs.ProcessChangeLemmas.{found}
-use Rattle.law_allowed.specs.Laws.{OpeningIsAllowed}
+use Rattle.law_allowed.specs.Allowed.{IsAllowedWhere}
 use Rattle.law_allowed.specs.Resting.{IsSeenIn, IsFreeIn, IsLookedIn, IsOpeningIn}
 use Rattle.law_allowed.proofs.KnownLemmas.{maybe, free-lowest}
 use Rattle.law_allowed.proofs.NameLemmas.{written-to, free-name, small-mode}
@@ -226,6 +226,8 @@ module _ {M : Type 0} (number : M → ℕ) (table : List Row) (mounts : Mounts M
   openat (OpensFound looked) is flags mode = found-opened looked is flags
   openat (OpensNew dir name) is flags mode = new-opened dir is.0 name is.1 flags mode
 
-pub opening-is-allowed : (M : Type 0) → OpeningIsAllowed M
+-- openat(2)
+pub opening-is-allowed : (M : Type 0) (number : M → ℕ) (table : List Row) (mounts : Mounts M) (pid : ℕ) (o : Opening) (flags mode : ℕ)
+    → IsAllowedWhere number table mounts pid (λ t next. IsOpeningIn number table mounts t o) (λ k. openat_row k o flags mode)
 opening-is-allowed M number table mounts pid o flags mode =
     row-allowed number table mounts pid (λ t next. IsOpeningIn number table mounts t o) (λ k. openat_row k o flags mode) (λ s l lives rests. openat number table mounts pid s l lives o rests flags mode)

@@ -16,15 +16,14 @@ use Rattle.law_lawful.specs.kr_model.Reply.{Replying, refuse}
 use Rattle.law_lawful.specs.kr_model.Seen.{Seen, Looked, Opening, Taken, Made, NoPath, WalkFails, LooksUp, ReadsLink, Opens, TakesEntry, MakesEntry, Links, Moves, NamesDirectory}
 use Rattle.law_allowed.specs.Allowed.{IsAllowedWhere}
 use Rattle.law_allowed.specs.Calls.{IsGivable, RestsOn, OperationIsAllowed}
-use Rattle.law_allowed.specs.Laws.{AreDescriptorRowsAllowed, AreProcessRowsAllowed, AreMemoryRowsAllowed, AreFileRowsAllowed, AreAttributeRowsAllowed, AreDirectoryRowsAllowed, AreNameRowsAllowed}
-use Rattle.law_allowed.proofs.AttributeLemmas.{attribute-rows}
-use Rattle.law_allowed.proofs.DescriptorLemmas.{descriptor-rows}
-use Rattle.law_allowed.proofs.DirectoryLemmas.{directory-rows}
-use Rattle.law_allowed.proofs.FileLemmas.{file-rows}
-use Rattle.law_allowed.proofs.MemoryLemmas.{memory-rows}
-use Rattle.law_allowed.proofs.NameLemmas.{name-rows}
+use Rattle.law_allowed.proofs.AttributeLemmas.{AreAttributeRowsAllowed, attribute-rows}
+use Rattle.law_allowed.proofs.DescriptorLemmas.{AreDescriptorRowsAllowed, descriptor-rows}
+use Rattle.law_allowed.proofs.DirectoryLemmas.{AreDirectoryRowsAllowed, directory-rows}
+use Rattle.law_allowed.proofs.FileLemmas.{AreFileRowsAllowed, file-rows}
+use Rattle.law_allowed.proofs.MemoryLemmas.{AreMemoryRowsAllowed, memory-rows}
+use Rattle.law_allowed.proofs.NameLemmas.{AreNameRowsAllowed, name-rows}
 use Rattle.law_allowed.proofs.OpeningLemmas.{opening-is-allowed}
-use Rattle.law_allowed.proofs.ProcessLemmas.{process-rows}
+use Rattle.law_allowed.proofs.ProcessLemmas.{AreProcessRowsAllowed, process-rows}
 use Rattle.law_allowed.proofs.RowLemmas.{refuses, row-allowed}
 use Rattle.law_allowed.proofs.SilentLemmas.{silent-calls}
 
@@ -158,7 +157,7 @@ module _ (M : Type 0) (number : M → ℕ) (table : List Row) (mounts : Mounts M
   each (call.Fchmod fd mode) seen given = λ s p lawful lives holds rests. attributes.fchmod fd mode s p lawful lives holds tt
   each (call.Fchmodat dirfd path mode) seen given = looked-up-allowed seen (λ k l. fchmodat_row k l mode) (λ l s p lawful lives holds rests. attributes.fchmodat l mode s p lawful lives holds tt)
   each (call.Fchown fd uid gid) seen given = λ s p lawful lives holds rests. attributes.fchown fd uid gid given.0 given.1 s p lawful lives holds rests.0
-  each (call.Fchownat dirfd path uid gid flags) seen given = by-path-allowed seen path (λ k. fchownat_here k dirfd uid gid) (λ k. looked_up seen (λ l. fchownat_row k l uid gid)) (λ s p lawful lives holds rests. attributes.fchownat_here dirfd uid gid given.0 given.1 s p lawful lives holds rests.0) (looked-up-allowed seen (λ k l. fchownat_row k l uid gid) (λ l s p lawful lives holds rests. attributes.fchownat l uid gid given.0 given.1 s p lawful lives holds rests.0))
+  each (call.Fchownat dirfd path uid gid flags) seen given = by-path-allowed seen path (λ k. fchownat_here k dirfd uid gid) (λ k. looked_up seen (λ l. fchownat_row k l uid gid)) (λ s p lawful lives holds rests. attributes.here dirfd uid gid given.0 given.1 s p lawful lives holds rests.0) (looked-up-allowed seen (λ k l. fchownat_row k l uid gid) (λ l s p lawful lives holds rests. attributes.fchownat l uid gid given.0 given.1 s p lawful lives holds rests.0))
   each (call.Getdents64 fd buf n) seen given = λ s p lawful lives holds rests. directories.getdents64 fd buf n s p lawful lives holds rests.0
   each (call.Chdir path) seen given = looked-up-allowed seen (λ k l. chdir_row k l) (λ l s p lawful lives holds rests. directories.chdir l s p lawful lives holds rests.1)
   each (call.Fchdir fd) seen given = λ s p lawful lives holds rests. directories.fchdir fd s p lawful lives holds tt

@@ -19,7 +19,7 @@ use Rattle.law_lawful.specs.kr_model.Reply.{Replying, done}
 use Rattle.law_lawful.specs.kr_model.State.{Image, image_layout, Process, Ended, State, process}
 use Rattle.law_lawful.specs.Laws.{CanAllBeMade}
 use Rattle.law_lawful.proofs.AfterLemmas.{some-of}
-use Rattle.law_allowed.specs.Laws.{ProcessRowsAreAllowed}
+use Rattle.law_allowed.specs.Allowed.{IsAllowed}
 use Rattle.law_allowed.proofs.KnownLemmas.{not-less, not-most, caller-is}
 use Rattle.law_allowed.specs.Lasting.{AreModest}
 use Rattle.law_allowed.proofs.RowLemmas.{quietly, Allowed, unchanged, refuses, ended, tested, wrote, either, row-allowed}
@@ -82,7 +82,14 @@ module _ {M : Type 0} (number : M → ℕ) (table : List Row) (mounts : Mounts M
   wait4 : (child : ℤ) (status : ℕ) (options : ℤ) (usage : ℕ) → Allowed Can false (wait4_row k pid child status options usage)
   wait4 child status options usage = waited _ _ status usage _
 
-pub process-rows : (M : Type 0) → ProcessRowsAreAllowed M
+-- calls on processes
+pub record AreProcessRowsAllowed {M : Type 0} (number : M → ℕ) (table : List Row) (mounts : Mounts M) (pid : ℕ) : Type 0 where
+  pub umask : (m : ℕ) → IsAllowed number table mounts pid (λ k. umask_row k m)
+  pub exit : (code : ℤ) → IsAllowed number table mounts pid (λ k. exit_row code)
+  pub clone : (flags sp ctid : ℕ) → IsAllowed number table mounts pid (λ k. clone_row k flags sp ctid)
+  pub wait4 : (child : ℤ) (status : ℕ) (options : ℤ) (usage : ℕ) → IsAllowed number table mounts pid (λ k. wait4_row k pid child status options usage)
+
+pub process-rows : (M : Type 0) (number : M → ℕ) (table : List Row) (mounts : Mounts M) (pid : ℕ) → AreProcessRowsAllowed number table mounts pid
 process-rows M number table mounts pid = record {
   umask = λ m. row-allowed number table mounts pid (λ t next. Unit {0}) (λ k. umask_row k m) (λ s l lives rests. umask number table mounts pid s lives m);
   exit = λ code. row-allowed number table mounts pid (λ t next. Unit {0}) (λ k. exit_row code) (λ s l lives rests. exit number table mounts pid s lives code);

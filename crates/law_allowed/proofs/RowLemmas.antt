@@ -6,6 +6,7 @@ use Rattle.std.specs.Prelude.{map as map_list, ◌==◌, nat_le}
 use Rattle.std.specs.List.{AllByRecursion, find, list_all}
 use Rattle.std.specs.Option.{option_map}
 use Rattle.std.proofs.lemmas.Bool.Decides.{nat_tests}
+use Rattle.std.proofs.lemmas.Bool.{and_parts}
 use Rattle.law_lawful.specs.pr_base.declared.errno.Errno.{Errno}
 use Rattle.law_lawful.specs.rv_mem.Actions.{Action, Done, MayUse, ReadBytes, WriteBytes, carried_out, allows_uses}
 use Rattle.law_lawful.specs.rv_mem.declared.rights.Use.{Use}
@@ -106,13 +107,9 @@ draws_once cs = nat_le (drawn_by names_drawn cs) 1 && (nat_le (drawn_by files_dr
 abbrev pub are_quiet : List Change → Bool
 are_quiet cs = list_all is_quiet cs && draws_once cs
 
-both-true : (a b : Bool) → (a && b) ≡ true → (a ≡ true) × (b ≡ true)
-both-true true b e = (refl, e)
-both-true false b e = absurd cc
-
 quiet-users : (user : User) (cs : List Change) → list_all is_quiet cs ≡ true → AllByRecursion (IsOfUser user) cs
 quiet-users user [] e = tt
-quiet-users user (c ∷ cs) e = let both = both-true (is_quiet c) (list_all is_quiet cs) e in (by c both.0, quiet-users user cs both.1)
+quiet-users user (c ∷ cs) e = let both = and_parts (is_quiet c) (list_all is_quiet cs) e in (by c both.0, quiet-users user cs both.1)
   where
     by : (c : Change) → is_quiet c ≡ true → IsOfUser user c
     by (AddNode dir name mode uid gid body) e = absurd cc
@@ -120,15 +117,15 @@ quiet-users user (c ∷ cs) e = let both = both-true (is_quiet c) (list_all is_q
 
 pub draws-once : (cs : List Change) → draws_once cs ≡ true → DrawsOnce cs
 draws-once cs e =
-    let names = both-true (nat_le (drawn_by names_drawn cs) 1) (nat_le (drawn_by files_drawn cs) 1 && nat_le (drawn_by pids_drawn cs) 1) e in
-    let others = both-true (nat_le (drawn_by files_drawn cs) 1) (nat_le (drawn_by pids_drawn cs) 1) names.1 in
+    let names = and_parts (nat_le (drawn_by names_drawn cs) 1) (nat_le (drawn_by files_drawn cs) 1 && nat_le (drawn_by pids_drawn cs) 1) e in
+    let others = and_parts (nat_le (drawn_by files_drawn cs) 1) (nat_le (drawn_by pids_drawn cs) 1) names.1 in
     record { names = few (drawn_by names_drawn cs) names.0; files = few (drawn_by files_drawn cs) others.0; pids = few (drawn_by pids_drawn cs) others.1 }
   where
     few : (n : ℕ) → nat_le n 1 ≡ true → n ≤ 1
     few n e = grind (arith, nat_tests)
 
 pub quietly : {user : User} {cs : List Change} → are_quiet cs ≡ true → AreModest user cs
-quietly {user} {cs} e = let both = both-true (list_all is_quiet cs) (draws_once cs) e in record { users = quiet-users user cs both.0; drawn = draws-once cs both.1 }
+quietly {user} {cs} e = let both = and_parts (list_all is_quiet cs) (draws_once cs) e in record { users = quiet-users user cs both.0; drawn = draws-once cs both.1 }
 
 -- ---- states with another memory of the caller
 

@@ -1,47 +1,6 @@
 //! Laws of rows that are allowed, each carried by a function that does nothing.
 ghost use Rattle.law_allowed.specs.Calls.{DecodedAreGivable, OperationIsAllowed, SilentCallsAreAllowed};
-ghost use Rattle.law_allowed.specs.Laws.{AttributeRowsAreAllowed, DescriptorRowsAreAllowed, DirectoryRowsAreAllowed, FileRowsAreAllowed, MemoryRowsAreAllowed, NameRowsAreAllowed, OpeningIsAllowed, ProcessRowsAreAllowed};
 ghost use Rattle.law_allowed.specs.Told.{CallsLeaveLawful, CallsWalkToTargets, SettledAreNamed, TargetsAreTold, WalkedCallsLeaveLawful, WalksGiveTargets};
-
-/// Calls on descriptors leave a lawful state.
-pub fn descriptor_rows_are_allowed<T>()
-    ensures { DescriptorRowsAreAllowed T }
-{}
-
-/// Calls on processes leave a lawful state.
-pub fn process_rows_are_allowed<T>()
-    ensures { ProcessRowsAreAllowed T }
-{}
-
-/// So do calls on the caller's pages.
-pub fn memory_rows_are_allowed<T>()
-    ensures { MemoryRowsAreAllowed T }
-{}
-
-/// So do calls that read, write and cut files.
-pub fn file_rows_are_allowed<T>()
-    ensures { FileRowsAreAllowed T }
-{}
-
-/// So do calls on the attributes of a file.
-pub fn attribute_rows_are_allowed<T>()
-    ensures { AttributeRowsAreAllowed T }
-{}
-
-/// So do calls that read directories and change to them.
-pub fn directory_rows_are_allowed<T>()
-    ensures { DirectoryRowsAreAllowed T }
-{}
-
-/// So do calls that change names.
-pub fn name_rows_are_allowed<T>()
-    ensures { NameRowsAreAllowed T }
-{}
-
-/// So does the opening of files, those that are made among them.
-pub fn opening_is_allowed<T>()
-    ensures { OpeningIsAllowed T }
-{}
 
 /// A call whose line in the table says that it changes nothing and ends nobody leaves a lawful state.
 pub fn silent_calls_are_allowed<T>()

@@ -17,8 +17,8 @@
 //! Every call but execve leaves a lawful state: carried out on the memory of a living caller, its reads and writes alone leave one, the changes
 //! that it replies can then all be made, one behind the other, and with them the state is lawful (`operation_is_allowed`; what that says is
 //! `LeavesLawful`). What it makes belongs to the user, and it draws no number twice (`modest`). A call whose line in the table of the calls
-//! says that it changes nothing is allowed by that alone (`silent_calls_are_allowed`); the rows of the others carry it group by group:
-//! descriptors, processes, memory, files, attributes, directories, names, and openat (`.._rows_are_allowed`, `opening_is_allowed`).
+//! says that it changes nothing is allowed by that alone (`silent_calls_are_allowed`); the rows of the others are gone through group by group:
+//! descriptors, processes, memory, files, attributes, directories, names, and openat.
 //!
 //! What calls rest on beside that is named. The caller's memory holds bytes (`HoldsBytes`). Owners and process numbers have 32 bits, and serials
 //! of entries 63, which chown and getdents64 write and keep (`HasSmallNumbers`). Arguments are two descriptors of dup3 that aren't one, owners of

@@ -8,7 +8,6 @@ pub use Rattle.law_walks.proofs as law_walks
 pub mod AnsweredLemmas
 pub mod DecodeLemmas
 pub mod ExitLemmas
-pub mod KeepLemmas
 pub mod MarkLemmas
 pub mod NoCallLemmas
 pub mod OperationLemmas
@@ -19,7 +18,6 @@ pub mod RowLemmas
 pub mod ShelfLemmas
 pub mod StopLemmas
 pub mod SwapLemmas
-pub mod TableLemmas
 pub mod TextLemmas
 pub mod ShowingLemmas
 pub mod FreshLemmas

@@ -6,10 +6,9 @@ use Rattle.pt_tracer.specs.rv_mem.Actions.{carried_out}
 use Rattle.pt_tracer.specs.rv_mem.Memory.{Memory}
 use Rattle.pt_tracer.specs.rv_mem.declared.regs.Regs.{Regs}
 use Rattle.pt_args.specs.kr_calls.Arguments.{number}
-use Rattle.pt_args.specs.kr_calls.Decoding.{decoding}
+use Rattle.pt_args.specs.kr_calls.Decoding.{decoding, decoding_of}
 use Rattle.law_edits.specs.NoCalls.{NoCallsAreDecoded, without_call}
 use Rattle.law_edits.proofs.ShelfLemmas.{has_number}
-use Rattle.law_edits.proofs.TableLemmas.{decoding_of}
 
 -- registers that have it
 pub refused_at : (regs : Regs) (w : Memory) → number regs ≡ 0xffff_ffff_ffff_ffff → carried_out (decoding regs) w ≡ record { reply = Err ENOSYS; memory = w }

@@ -17,7 +17,7 @@ use Rattle.pt_tracer.proofs.rv_mem.AddressLemmas.{byte_at-written_other}
 use Rattle.pt_tracer.proofs.rv_mem.LayoutLemmas.{layouts_follow}
 use Rattle.pt_tracer.proofs.rv_mem.SpaceLemmas.{IsWhole-written}
 use Rattle.pt_args.specs.kr_calls.Arguments.{number}
-use Rattle.pt_args.specs.kr_calls.Decoding.{decoding, text_limit}
+use Rattle.pt_args.specs.kr_calls.Decoding.{decoding, decoding_of, text_limit}
 use Rattle.pt_args.specs.kr_calls.declared.request.Request.{Request}
 use Rattle.pt_args.specs.Laws.{AreReadBack, IsPathText, ShelvesHoldTheirItems, StandBetween, TextsAreReadBack, poked, room_of}
 use Rattle.pt_args.specs.Shelving.{address_below}
@@ -27,7 +27,6 @@ use Rattle.law_edits.specs.Swapped.{AreMarkedFrom, AreSwapped}
 use Rattle.law_edits.proofs.DecodeLemmas.{swapped_decoded}
 use Rattle.law_edits.proofs.RegisterLemmas.{IsArgument, path_registers, registers_apart}
 use Rattle.law_edits.proofs.RowLemmas.{refused_is}
-use Rattle.law_edits.proofs.TableLemmas.{decoding_of}
 
 -- ---- writes where the other machine's bytes are marked
 

@@ -13,6 +13,7 @@ use Rattle.pt_args.specs.kr_calls.declared.request.Request.{Request}
 use Rattle.law_walks.specs.kr_model.State.{Image}
 use Rattle.kr_turns.specs.kr_stops.Stopped.{Stopped, edited, image_at}
 use Rattle.pt_tracer.specs.pt_faker.Stopping.{after_request, decoded_at, memory_at}
+use Rattle.pt_args.proofs.kr_calls.DecodingLemmas.{decodings_leave_pages}
 use Rattle.pt_args.specs.Laws.{ShelvesHoldTheirItems, TextsAreReadBack}
 use Rattle.pt_tracer.specs.Planning.{stack_at}
 use Rattle.pt_tracer.specs.Poking.{may_poke, poked}
@@ -21,7 +22,6 @@ use Rattle.pt_tracer.specs.Watched.{Applied, applied, refused}
 use Rattle.law_edits.specs.Requests.{AreOfPaths, NewText}
 use Rattle.law_edits.specs.Shelves.{HasMarkedShelf, addresses_at, bottom_of, items_at, memory_behind, new_texts, registers_behind, swap_edit}
 use Rattle.law_edits.specs.Stops.{CanBeSwapped, IsSwapped}
-use Rattle.law_edits.proofs.KeepLemmas.{decoding_keeps}
 use Rattle.law_edits.proofs.RangeLemmas.{byte_allowed}
 use Rattle.law_edits.proofs.RegisterLemmas.{IsArgument, path_registers}
 use Rattle.law_edits.proofs.ShelfLemmas.{decoded_behind, found_alike, shelf_poked, stand}
@@ -101,7 +101,7 @@ module _ (back : TextsAreReadBack) (hold : ShelvesHoldTheirItems) (t : Stopped) 
       up_to sp a room high = omega (arith, room, high)
 
   same : AreEqualUnmarked m.pages own.pages
-  same = subst (λ pages. AreEqualUnmarked m.pages pages) (sym (decoding_keeps (image_at t).regs (memory_at t))) can.calm.alike
+  same = subst (λ pages. AreEqualUnmarked m.pages pages) (sym (decodings_leave_pages (image_at t).regs (memory_at t))) can.calm.alike
 
   -- ---- what is done
 
@@ -138,7 +138,7 @@ module _ (back : TextsAreReadBack) (hold : ShelvesHoldTheirItems) (t : Stopped) 
         ap (λ (i : Image). (carried_out (decoding i.regs) i.memory).reply) image_behind
         ∙ decoded_behind back hold (image_at t).regs m own r first second sp can.named can.one can.two shelf same can.calm.unread
         (found_alike (image_at t).regs m (memory_at t) r can.calm.alike can.calm.unread can.decoded);
-    pages = decoding_keeps (image_at (edited regs_behind behind t)).regs (memory_at (edited regs_behind behind t));
+    pages = decodings_leave_pages (image_at (edited regs_behind behind t)).regs (memory_at (edited regs_behind behind t));
     alike = subst (λ (i : Image). AreEqualUnmarked m.pages i.memory.pages) (sym image_behind) (shelf_poked hold m own first second sp shelf can.one can.two same);
   }
 

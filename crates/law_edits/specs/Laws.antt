@@ -25,7 +25,3 @@ abbrev pub SwapsAreDecoded : Type 0
 SwapsAreDecoded =
     (regs : Regs) (m w : Memory) (r : Request) (first : NewText) (second : Option NewText) (sp : ℕ) → AreOfPaths r first second → CanBePath first → CanSecondBePath second → HasMarkedShelf sp m.pages w.pages
     → IsDecodedCalmly regs m w.pages → (carried_out (decoding regs) w).reply ≡ Ok r → IsDecodedBehind regs m w r first second sp
-
--- the decoding of a call writes nothing
-abbrev pub DecodingsKeepPages : Type 0
-DecodingsKeepPages = (regs : Regs) (m : Memory) → (carried_out (decoding regs) m).memory.pages ≡ m.pages

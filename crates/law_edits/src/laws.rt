@@ -1,5 +1,5 @@
 //! Laws of calls whose paths were swapped, each carried by a function that does nothing.
-ghost use Rattle.law_edits.specs.Laws.{DecodingsKeepPages, SwappedTextsAreDecoded, SwapsAreDecoded};
+ghost use Rattle.law_edits.specs.Laws.{SwappedTextsAreDecoded, SwapsAreDecoded};
 ghost use Rattle.law_edits.specs.Marking.{ShelvesAreMarked};
 ghost use Rattle.law_edits.specs.NoCalls.{NoCallsAreDecoded};
 ghost use Rattle.law_edits.specs.Operations.{OperationsAreSame, PathsAreSwapped};
@@ -19,11 +19,6 @@ pub fn swaps_are_decoded()
     laws::texts_are_read_back();
     laws::shelves_hold_their_items();
 }
-
-/// The decoding of a call leaves the pages as they are.
-pub fn decodings_keep_pages()
-    ensures { DecodingsKeepPages }
-{}
 
 /// The paths of a request with other texts have these, and are walked as before.
 pub fn paths_are_swapped()

@@ -6,7 +6,7 @@
 //! the registers of the paths, its request has the new texts and is the same in all else (`swapped_texts_are_decoded`, `swaps_are_decoded`): a
 //! text that is no path, and a path that stays, are read as before, since the other machine, whose shelf is marked, reads no marked byte for
 //! them. What was written is marked there, and so is all of the shelf (`shelves_are_marked`). Decoding leaves the pages as they are
-//! (`decodings_keep_pages`). The paths of such a request have these texts and are walked as before (`paths_are_swapped`), and where the same is
+//! (`decodings_leave_pages` of kr_calls). The paths of such a request have these texts and are walked as before (`paths_are_swapped`), and where the same is
 //! told of them, a call other than execve(2) comes to the same (`operations_are_same`). The edit puts the texts of where the paths lead
 //! (`walks_are_swapped`). Registers with the number of no call are refused, and no byte is read (`no_calls_are_decoded`).
 //!

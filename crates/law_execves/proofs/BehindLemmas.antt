@@ -2,6 +2,7 @@
 use Rattle.std.proofs.Common.{◌≡◌, ℕ, [], ◌∷◌, Option, Some, None, Ok, refl, sym, ap, ◌∙◌}
 use Rattle.std.specs.Prelude.{IsSome}
 use Rattle.std.specs.Option.{option_map}
+use Rattle.std.proofs.lemmas.Option.{same_Some}
 use Rattle.law_programs.specs.kr_execve.Execution.{Program, changes_of}
 use Rattle.law_stops.specs.kr_model.Applied.{Mounts, all_applied, applied, images, with_image, with_living, with_program}
 use Rattle.law_stops.specs.kr_model.Change.{CloseOnExec, OfFound, ReplaceExecutable, ReplaceImage}
@@ -9,9 +10,6 @@ use Rattle.law_stops.specs.kr_model.State.{Image, Process, State, process, with_
 use Rattle.law_stops.specs.law_turns.Registers.{registers_in}
 use Rattle.law_stops.proofs.law_turns.RegisterLemmas.{changes_keep_registers}
 use Rattle.law_stops.proofs.AnsweredLemmas.{each_twice, lives_changed}
-
-some_same : {A : Type 0} {a b : A} → Some a ≡ Some b → a ≡ b
-some_same e = cc
 
 module _ (pid : ℕ) where
   -- registers and a memory that were there before a program don't show behind it
@@ -48,7 +46,7 @@ module _ (pid : ℕ) where
         where
           never : {A : Type 0} {a : A} → None ≡ Some a → ⊥
           never e = cc
-      found (Some q) lives is = record { process_there = q; lives = lives; registers = some_same (sym (ap (option_map (λ (p : Process ℕ Image). p.image.regs)) lives) ∙ is) }
+      found (Some q) lives is = record { process_there = q; lives = lives; registers = same_Some _ _ (sym (ap (option_map (λ (p : Process ℕ Image). p.image.regs)) lives) ∙ is) }
 
       by : (o : Option (Process ℕ Image)) → process pid s ≡ o → IsSome o → Behind mounts program s
       by None none some = absurd cc

@@ -1,6 +1,7 @@
 -- Both machines at the first stop of an execve.
 use Rattle.std.proofs.Common.{◌≡◌, ℕ, Some, refl, sym, ap, subst, ◌∙◌, arith}
 use Rattle.std.specs.Option.{option_map}
+use Rattle.std.proofs.lemmas.Option.{same_Some}
 use Rattle.pt_args.specs.rv_mem.Actions.{AreEqualUnmarked}
 use Rattle.pt_args.specs.rv_mem.Layout.{layout_of}
 use Rattle.pt_args.specs.rv_mem.Memory.{Memory}
@@ -45,9 +46,6 @@ use Rattle.law_programs.proofs.WorkLemmas.{working_directories_are_known}
 use Rattle.law_execves.proofs.GoLemmas as go
 use Rattle.law_execves.proofs.ExecveLemmas.{ExecveCall, execve_of}
 use Rattle.law_execves.specs.Beginning.{BeginsTogether, ExecvesBeginTogether}
-
-some_same : {A : Type 0} {a b : A} → Some a ≡ Some b → a ≡ b
-some_same e = cc
 
 module _ {S : Type 0} {scene : Scene S} (execve : ExecveCall scene) where
   open scene use {table, made, pid, traced as n}
@@ -144,7 +142,7 @@ module _ {S : Type 0} {scene : Scene S} (execve : ExecveCall scene) where
 
     same_cwd : (given pid regs memory q).cwd.host ≡ p2.cwd.host
     same_cwd =
-        some_same
+        same_Some _ _
         (sym (ap (option_map (λ p. p.cwd.host)) (process-bare ℕ (pins_of plain) pid left) ∙ ap (λ o. option_map (λ p. p.cwd.host) (option_map (bare_process image_layout) o)) lives_left)
         ∙ sym (ap (λ b. option_map (λ p. p.cwd.host) (process pid b)) bares)
         ∙ ap (option_map (λ p. p.cwd.host)) (process-bare ℕ (pins_of table) pid at) ∙ ap (λ o. option_map (λ p. p.cwd.host) (option_map (bare_process image_layout) o)) lives2)

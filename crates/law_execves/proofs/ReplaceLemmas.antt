@@ -3,6 +3,7 @@ use Rattle.std.specs.FinMap as map
 use Rattle.std.proofs.Common.{◌≡◌, ◌≢◌, ℕ, true, false, List, [], ◌∷◌, Option, Some, None, Ok, refl, sym, ap, subst, ◌∙◌, map as map_list}
 use Rattle.std.specs.Option.{option_map_or}
 use Rattle.std.proofs.lemmas.List.Elements.{All-head}
+use Rattle.std.proofs.lemmas.Option.{same_Some}
 use Rattle.law_programs.specs.pr_base.Paths.{AreNames, IsName}
 use Rattle.pt_args.specs.pt_bind.Tags.{TagTable, with_tag}
 use Rattle.pt_args.specs.pt_bind.declared.slot.Slot.TheVariants.{Exe}
@@ -90,12 +91,9 @@ module _ (table : List Row) (pid : ℕ) (s w : State ℕ Image) (tags : TagTable
   new : NewPlacesStand table (mounts_of program) pid s (changes_of (Ok program))
   new = (tt, (brings, (tt, tt)))
     where
-      some_same : {A : Type 0} {a b : A} → Some a ≡ Some b → a ≡ b
-      some_same e = cc
-
       brings : (k : ℕ) → Some program.exe.mount ≡ Some k → UseStands (space_of table loaded) (record { place = record { mount = k; host = program.exe.host }; is_directory = false; dir = program.dir; name = program.name })
       brings k is =
-          subst (λ k. UseStands (space_of table loaded) (record { place = record { mount = k; host = program.exe.host }; is_directory = false; dir = program.dir; name = program.name })) (some_same is)
+          subst (λ k. UseStands (space_of table loaded) (record { place = record { mount = k; host = program.exe.host }; is_directory = false; dir = program.dir; name = program.name })) (same_Some _ _ is)
           (subst (λ space. UseStands space (record { place = program.exe; is_directory = false; dir = program.dir; name = program.name })) (sym same_space) stands)
 
   -- ---- its tag

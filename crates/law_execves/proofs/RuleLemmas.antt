@@ -2,7 +2,7 @@
 use Rattle.std.proofs.Common.{◌≡◌, ◌≤◌, ℕ, Bool, true, false, cond, ◌||◌, Option, Some, None, refl, sym, ap, subst, ◌∙◌, nat_lt}
 use Rattle.std.specs.Option.{option_map_or}
 use Rattle.std.specs.Prelude.{IsSome}
-use Rattle.std.proofs.lemmas.Bool.{ltb-false}
+use Rattle.std.proofs.lemmas.Bool.{or_parts, ltb-false}
 use Rattle.pt_args.specs.rv_mem.Actions.{AreEqualUnmarked, carried_out}
 use Rattle.pt_args.specs.rv_mem.Memory.{Memory}
 use Rattle.pt_args.specs.kr_calls.Arguments.{number}
@@ -22,7 +22,6 @@ use Rattle.law_stops.specs.law_edits.Swapped.{AreMarkedFrom}
 use Rattle.law_stops.proofs.law_edits.MarkLemmas.{shelves_are_marked}
 use Rattle.law_stops.proofs.law_edits.NumberLemmas.{paths_have_numbers}
 use Rattle.law_stops.proofs.law_edits.CallShelfLemmas.{calm_calls_have_shelves, shelves_are_seen}
-use Rattle.law_plans.proofs.law_places.InUseLemmas.{neither}
 use Rattle.law_stops.specs.Scene.{Scene}
 use Rattle.law_stops.proofs.CallLemmas as before
 use Rattle.law_stops.proofs.CallLemmas.{own_image}
@@ -69,7 +68,7 @@ module _ {S : Type 0} {scene : Scene S} (execve : ExecveCall scene) where
   rules = none_of_six _ _ _ _ _ _ calm_row
 
   pub unread : (carried_out (execution table pid at path args env) (memory_of pid at)).memory.read_marked ≡ false
-  unread = (neither (carried_out (execution table pid at path args env) (memory_of pid at)).memory.read_marked lacks rules.0).0
+  unread = (or_parts (carried_out (execution table pid at path args env) (memory_of pid at)).memory.read_marked lacks rules.0).0
 
   pub short : (execution_reach table pid at path args env (memory_of pid at) nothing_reached).longest ≤ 4000
   short = ltb-false 4000 (execution_reach table pid at path args env (memory_of pid at) nothing_reached).longest rules.1

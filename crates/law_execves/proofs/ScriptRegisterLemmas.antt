@@ -1,20 +1,19 @@
 -- The registers of a script's execve behind the first stop, of which a0 and a1 are others: the plain kernel decodes an execve of what they
 -- have, and at the second stop a1 is given back with the other arguments.
 use Rattle.std.specs.FinMap as map
-use Rattle.std.proofs.Common.{◌≡◌, ◌≢◌, ℕ, Bool, true, false, cond, List, [], ◌∷◌, length, nat_lt, Some, None, Ok, refl, sym, ap, subst, ◌∙◌, get_or, arith}
+use Rattle.std.proofs.Common.{◌≡◌, ◌≢◌, ℕ, false, List, [], ◌∷◌, length, Some, None, Ok, refl, sym, ap, subst, ◌∙◌, get_or, arith}
 use Rattle.std.specs.Prelude.{◌==◌, slice_set}
 use Rattle.std.specs.Int.{cast_signed, w64}
-use Rattle.std.specs.Option.{option_map}
 use Rattle.std.proofs.lemmas.List.{get_or-set_other, get_or-set_same, length-set}
 use Rattle.law_programs.specs.pr_base.declared.errno.Errno.{Errno}
-use Rattle.pt_args.specs.rv_mem.Actions.{Action, carried_out}
+use Rattle.pt_args.specs.rv_mem.Actions.{carried_out}
 use Rattle.pt_args.specs.rv_mem.Memory.{Memory, text_of}
 use Rattle.pt_args.specs.rv_mem.declared.regs.Regs.{Regs}
-use Rattle.pt_args.specs.kr_calls.Arguments.{has, has_other, long, number, word}
-use Rattle.pt_args.specs.kr_calls.Decoding.{Decoded, accepts, decoding, execve_row, execve_with, faccessat_row, faccessat_with, fchmodat_row, fchmodat_with, fchownat_row, fchownat_with, has_bad_open_flags, has_no_size, link_flags, linkat_row, linkat_with, mkdirat_row, mkdirat_with, chdir_row, chroot_row, newfstatat_row, newfstatat_with, openat_row, openat_with, readlinkat_row, readlinkat_with, remove_flags, renameat2_row, renameat2_with, stat_flags, symlinkat_row, symlinkat_with, text_limit, unless, unlinkat_row, unlinkat_with, with_text, with_texts}
-use Rattle.pt_args.specs.kr_calls.PathTable.{path_at}
+use Rattle.pt_args.specs.kr_calls.Arguments.{long, number}
+use Rattle.pt_args.specs.kr_calls.Decoding.{accepts, decoding, decoding_of, decoded_execve, execve_with, text_limit}
 use Rattle.pt_args.specs.kr_calls.declared.request.Request.{Request}
 use Rattle.pt_args.specs.kr_calls.declared.request.Request.TheVariants as call
+use Rattle.pt_args.proofs.kr_calls.DecodingLemmas.{decoded_are_numbered}
 use Rattle.law_stops.specs.kr_model.State.{Image}
 use Rattle.law_stops.specs.kr_stops.Stopped.{IsThere, Stopped, edited, image_at}
 use Rattle.law_stops.specs.pt_results.Notes.{noted, tags_after}
@@ -22,18 +21,14 @@ use Rattle.law_stops.specs.pt_ident.Identity.{refusal}
 use Rattle.law_stops.specs.pt_faker.Faking.{word_of}
 use Rattle.law_stops.specs.pt_faker.Stopping.{memory_at}
 use Rattle.law_stops.specs.pt_tracer.Registers.{given_back}
-use Rattle.law_stops.specs.pt_tracer.Watched.{Tracing, answer_at, awaiting, exited, has_begun, is_execve, with_tags, without_pending}
+use Rattle.law_stops.specs.pt_tracer.Watched.{Tracing, answer_at, awaiting, exited, has_begun, with_tags, without_pending}
 use Rattle.law_stops.specs.pt_tracer.declared.plan.Led.{Led}
 use Rattle.law_stops.specs.pt_tracer.declared.registers.Arguments.{Arguments}
 use Rattle.law_stops.specs.law_edits.Exits.{left_with}
-use Rattle.law_stops.specs.law_edits.Requests.{path_register}
 use Rattle.law_stops.specs.law_edits.Shelves.{with_words}
 use Rattle.law_stops.proofs.law_edits.ExitLemmas.{gives_back, swapped_back}
-use Rattle.law_stops.proofs.law_edits.RowLemmas.{refused_is}
-use Rattle.law_stops.proofs.law_edits.ShelfLemmas.{differ}
 use Rattle.law_stops.proofs.law_edits.StopLemmas.{image_is, words_put}
-use Rattle.law_stops.proofs.law_edits.TableLemmas.{HoldsOfRows, decoding_of, holds}
-use Rattle.law_stops.proofs.law_edits.TextLemmas.{accepted_is, after_text, text_on, text_read_of}
+use Rattle.law_stops.proofs.law_edits.TextLemmas.{accepted_is, text_on, text_read_of}
 use Rattle.law_execves.proofs.BegunLemmas.{told_no_zero}
 
 -- ---- the registers
@@ -58,9 +53,6 @@ module _ (xs : List ℕ) (a b : ℕ) where
 
 -- ---- the first stop
 
-no-path : {P : Type 0} (register : ℕ) → None ≡ Some register → P
-no-path register e = absurd cc
-
 abbrev env_of : Request → ℕ
 env_of (call.Execve path args env) = env
 env_of _ = 0
@@ -70,75 +62,19 @@ module _ (old new : Regs) (m w : Memory) (path : List ℕ) (args env : ℕ) (hos
   abbrev r : Request
   r = call.Execve path args env
 
-  -- where the one action gives the execve, the other one gives that of the new registers
-  record Gives (one other : Action Decoded) : Type 0 where
-    go : (carried_out one m).reply ≡ Ok r → (carried_out other w).reply ≡ Ok (call.Execve host top env)
-
-  either : (b : Bool) {x y x' y' : Action Decoded} → Gives x y → Gives x' y' → Gives (cond b x x') (cond b y y')
-  either true one other = one
-  either false one other = other
-
-  tested : (b : Bool) {x other : Action Decoded} → Gives x other → Gives (unless b x) other
-  tested true gives = record { go = λ e. refused_is _ r e }
-  tested false gives = gives
-
-  none : {q : Request} {other : Action Decoded} → path_at q 0 ≡ None → Gives (accepts q) other
-  none {q} pathless = record { go = λ e. no-path 10 (sym (ap (option_map (λ u. u.register)) pathless) ∙ ap (λ q. path_register q 0) (accepted_is q r e)) }
-
-  -- another call is none
-  another : {P : Type 0} (q : Request) → is_execve q ≡ false → q ≡ r → P
-  another q other is = differ (ap is_execve (sym is) ∙ other)
-
-  single : (may broken : Bool) (at : ℕ) (f : List ℕ → Request) (other : Action Decoded) → ((t : List ℕ) → is_execve (f t) ≡ false) → Gives (unless broken (with_text may at (λ t. accepts (f t)))) other
-  single may true at f other apart = record { go = λ e. refused_is _ r e }
-  single may false at f other apart = record {
-    go = λ e.
-        let own = text_read_of at (λ t. accepts (f t)) m r may e in
-        another (f own.text) (apart own.text) (accepted_is (f own.text) r (sym (ap (λ d. d.reply) own.whole) ∙ e));
-  }
-
-  both : (broken : Bool) (at by : ℕ) (f : List ℕ → List ℕ → Request) (other : Action Decoded) → ((t s : List ℕ) → is_execve (f t s) ≡ false) → Gives (unless broken (with_texts at by (λ one two. accepts (f one two)))) other
-  both true at by f other apart = record { go = λ e. refused_is _ r e }
-  both false at by f other apart = record {
-    go = λ e.
-        let one = text_read_of at (λ one. with_text false by (λ two. accepts (f one two))) m r false e in
-        let two = text_read_of by (λ two. accepts (f one.text two)) (after_text m at) r false (sym (ap (λ d. d.reply) one.whole) ∙ e) in
-        another (f one.text two.text) (apart one.text two.text) (accepted_is (f one.text two.text) r (sym (ap (λ d. d.reply) (one.whole ∙ two.whole)) ∙ e));
-  }
-
-  own_row : Gives (execve_row old) (execve_row new)
-  own_row = record {
-    go = λ e.
-        let own = text_read_of (long old 0) (λ t. accepts (execve_with old t)) m r false e in
-        let third : long new 2 ≡ env = second ∙ ap env_of (accepted_is (execve_with old own.text) r (sym (ap (λ d. d.reply) own.whole) ∙ e)) in
-        let same : execve_with new host ≡ call.Execve host top env = λ i. call.Execve host (first i) (third i) in
-        ap (λ d. d.reply) (text_on false (long new 0) (λ t. accepts (execve_with new t)) w host stands some) ∙ ap Ok same;
-  }
-
-  rows : HoldsOfRows Gives old new
-  rows = record {
-    either = λ b x y z w' one other. either b one other;
-    none = λ q other pathless. none pathless;
-    tested = λ b x other gives. tested b gives;
-    never = λ e other. record { go = λ is. refused_is e r is };
-    faccessat = single false (nat_lt 7 (word old 2)) (long old 1) (faccessat_with old) (faccessat_row new) (λ t. refl);
-    openat = single false (has_bad_open_flags (word old 2)) (long old 1) (openat_with old) (openat_row new) (λ t. refl);
-    readlinkat = single false (has_no_size (word old 3)) (long old 1) (readlinkat_with old) (readlinkat_row new) (λ t. refl);
-    newfstatat = single (has (word old 3) 0x1000) (has_other (word old 3) stat_flags) (long old 1) (newfstatat_with old) (newfstatat_row new) (λ t. refl);
-    mkdirat = single false false (long old 1) (mkdirat_with old) (mkdirat_row new) (λ t. refl);
-    unlinkat = single false (has_other (word old 2) remove_flags) (long old 1) (unlinkat_with old) (unlinkat_row new) (λ t. refl);
-    symlinkat = both false (long old 0) (long old 2) (symlinkat_with old) (symlinkat_row new) (λ t s. refl);
-    linkat = both (has_other (word old 4) link_flags) (long old 1) (long old 3) (linkat_with old) (linkat_row new) (λ t s. refl);
-    chdir = single false false (long old 0) (λ t. call.Chdir t) (chdir_row new) (λ t. refl);
-    chroot = single false false (long old 0) (λ t. call.Chroot t) (chroot_row new) (λ t. refl);
-    fchmodat = single false false (long old 1) (fchmodat_with old) (fchmodat_row new) (λ t. refl);
-    fchownat = single (has (word old 4) 0x1000) (has_other (word old 4) stat_flags) (long old 1) (fchownat_with old) (fchownat_row new) (λ t. refl);
-    execve = own_row;
-    renameat2 = both (has_other (word old 4) 0) (long old 1) (long old 3) (renameat2_with old) (renameat2_row new) (λ t s. refl);
-  }
+  -- its row gives it of the new registers
+  own_row : (carried_out (decoded_execve old) m).reply ≡ Ok r → (carried_out (decoded_execve new) w).reply ≡ Ok (call.Execve host top env)
+  own_row e =
+      let own = text_read_of (long old 0) (λ t. accepts (execve_with old t)) m r false e in
+      let third : long new 2 ≡ env = second ∙ ap env_of (accepted_is (execve_with old own.text) r (sym (ap (λ d. d.reply) own.whole) ∙ e)) in
+      let same : execve_with new host ≡ call.Execve host top env = λ i. call.Execve host (first i) (third i) in
+      ap (λ d. d.reply) (text_on false (long new 0) (λ t. accepts (execve_with new t)) w host stands some) ∙ ap Ok same
 
   pub found : (carried_out (decoding old) m).reply ≡ Ok r → (carried_out (decoding new) w).reply ≡ Ok (call.Execve host top env)
-  found is = (subst (λ n. Gives (decoding old) (decoding_of n new)) (sym number_stays) (holds Gives old new rows (number old))).go is
+  found is =
+      let number_is : 221 ≡ number old = decoded_are_numbered old m r is in
+      subst (λ n. (carried_out (decoding_of n new) w).reply ≡ Ok (call.Execve host top env)) (number_is ∙ sym number_stays)
+      (own_row (subst (λ n. (carried_out (decoding_of n old) m).reply ≡ Ok r) (sym number_is) is))
 
 -- so the plain kernel finds the host text and the list, and the environment of the call
 pub script_is_read : (regs : Regs) (a b : ℕ) (m w : Memory) (path : List ℕ) (args env : ℕ) (host : List ℕ) → length regs.x ≡ 32 → host ≢ [] → text_of w.pages a text_limit ≡ Ok host → (carried_out (decoding regs) m).reply ≡ Ok (call.Execve path args env)

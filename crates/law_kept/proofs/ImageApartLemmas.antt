@@ -4,6 +4,7 @@ use Rattle.std.proofs.Common.{◌≡◌, ℕ, zero, suc, ◌+◌, Bool, true, fa
 use Rattle.std.specs.Prelude.{map as map_list, not, ◌==◌}
 use Rattle.std.specs.List.{filter}
 use Rattle.std.specs.Option.{option_and_then, option_map, option_map_or}
+use Rattle.std.proofs.lemmas.Bool.{and_parts}
 use Rattle.kr_first.specs.pr_base.Maps.{changed}
 use Rattle.kr_first.specs.kr_tree.Changes as tree
 use Rattle.kr_first.specs.kr_tree.declared.place.Host.{Host}
@@ -12,7 +13,6 @@ use Rattle.kr_first.specs.kr_files.Descriptors.{Meanings, Named}
 use Rattle.kr_first.specs.kr_files.Files.{at_offset, file_at, with_all_opened, with_append, with_opened}
 use Rattle.kr_first.specs.kr_files.Opened.{after_removal, after_rename}
 use Rattle.kr_first.specs.kr_files.declared.opened.Opened.{Opened}
-use Rattle.kr_turns.proofs.kr_calm.ChangeLemmas.{both}
 use Rattle.kr_first.proofs.law_lawful.ProcessChangeLemmas.{found as found_changed}
 use Rattle.kr_first.specs.kr_model.Applied.{Computing, Mounts, all_applied, applied, close, close_below, close_named, close_on_exec_below, copy_named, copy_over, cwd_of, end, exe_after_removal, exe_after_rename, exe_of, exe_remembers, executed, gone, images, is_closed_on_exec, let_go, mount_of, moved_to, on_opened_of, open_in, orphaned, pipe_made, released_at, with_brk, with_cwd, with_exe, with_exe_name, with_files, with_image, with_living, with_parent, with_tree, with_umask}
 use Rattle.kr_first.specs.kr_model.Change.{Change, AddNode, LinkNode, RemoveName, MoveName, SetMode, SetOwner, SetSize, WriteFile, OpenFile, CopyDescriptor, CloseDescriptor, SetCloexec, Seek, SetAppend, MakePipe, TakeFromPipe, PutIntoPipe, TakeInput, WriteOut, WriteErr, ChangePages, SetBreak, SetUmask, ChangeDirectory, Fork, End, Reap, ReplaceImage, ReplaceExecutable, CloseOnExec, MountOf, OfFound, OfDirectory, OfDescriptor}
@@ -311,7 +311,7 @@ module _ {M X : Type 0} (caller : ℕ) (g : X → X) where
     changes_apart : (cs : List Change) → leave_images cs ≡ true → StandsApart (all_applied computing mounts pid cs)
     changes_apart [] leave s = refl
     changes_apart (c ∷ cs) leave s =
-        let parts = both (leaves_images c) (leave_images cs) leave in
+        let parts = and_parts (leaves_images c) (leave_images cs) leave in
         ap (all_applied computing mounts pid cs) (change_apart c parts.0 s) ∙ changes_apart cs parts.1 (applied computing mounts pid c s)
 
 -- ---- the law

@@ -5,6 +5,7 @@ use Rattle.std.specs.Prelude.{map as map_list, ◌==◌, sum}
 use Rattle.std.specs.List.{find, filter, list_any}
 use Rattle.std.specs.Option.{option_map, option_map_or, option_and_then}
 use Rattle.std.proofs.lemmas.Bool.Decides.{nat_tests}
+use Rattle.std.proofs.lemmas.Bool.{or_parts}
 use Rattle.kr_model.proofs.pr_base.MapLemmas.{by_key, get-remove_same, get-remove_other}
 use Rattle.kr_model.specs.kr_tree.Tree.{Tree}
 use Rattle.kr_model.proofs.kr_tree.NameLemmas.{some_is}
@@ -20,7 +21,7 @@ use Rattle.law_lawful.proofs.TreeChangeLemmas.{Still, still-on, still-leaves}
 use Rattle.law_lawful.proofs.ProcessChangeLemmas.{same-mapped, as-long, some-mapped, found-passes, found, below-none, found-above}
 use Rattle.law_lawful.proofs.CountLemmas.{released-uses}
 use Rattle.law_lawful.proofs.AfterLemmas.{some-of, NamesFiles, parts-of, lawful-after}
-use Rattle.law_lawful.proofs.OwnChangeLemmas.{neither, rise-filtered, none-filtered, filtered-few}
+use Rattle.law_lawful.proofs.OwnChangeLemmas.{rise-filtered, none-filtered, filtered-few}
 use Rattle.law_lawful.proofs.DescriptorChangeLemmas.{here-none, released-at-still, close-below-keeps}
 
 -- ---- lists without one
@@ -89,7 +90,7 @@ module _ {M X : Type 0} (pid : ℕ) where
 rise-put : (e : Ended) (low next : ℕ) (es : List Ended) → low ≤ e.pid → e.pid < next → list_any (λ f. f.pid == e.pid) es ≡ false → RiseFrom low next (map_list (λ f. f.pid) es) → RiseFrom low next (map_list (λ f. f.pid) (put_in e es))
 rise-put e low next [] above below none rise = (above, below, tt)
 rise-put e low next (f ∷ es) above below none rise =
-    let both = neither (f.pid == e.pid) (list_any (λ f. f.pid == e.pid) es) none in
+    let both = or_parts (f.pid == e.pid) (list_any (λ f. f.pid == e.pid) es) none in
     by both.0 (nat_lt e.pid f.pid) refl (rise-put e (suc f.pid) next es) both.1
   where
     by : (f.pid == e.pid) ≡ false → (b : Bool) → nat_lt e.pid f.pid ≡ b
@@ -101,7 +102,7 @@ rise-put e low next (f ∷ es) above below none rise =
 none-put : (q : ℕ) (e : Ended) (es : List Ended) → (e.pid == q) ≡ false → list_any (λ f. f.pid == q) es ≡ false → list_any (λ f. f.pid == q) (put_in e es) ≡ false
 none-put q e [] apart none = ap (λ b. b || false) apart
 none-put q e (f ∷ es) apart none =
-    let both = neither (f.pid == q) (list_any (λ f. f.pid == q) es) none in
+    let both = or_parts (f.pid == q) (list_any (λ f. f.pid == q) es) none in
     let rest = none-put q e es apart both.1 in
     elim (nat_lt e.pid f.pid) as (λ b. list_any (λ f. f.pid == q) (cond b (e ∷ f ∷ es) (f ∷ put_in e es)) ≡ false) [
       | true ↦ ap (λ b. b || list_any (λ f. f.pid == q) (f ∷ es)) apart ∙ none

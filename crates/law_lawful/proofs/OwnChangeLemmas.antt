@@ -5,6 +5,7 @@ use Rattle.std.specs.Prelude.{map as map_list, ◌==◌, sum, IfSome}
 use Rattle.std.specs.List.{filter, list_any}
 use Rattle.std.specs.Option.{option_map, option_map_or}
 use Rattle.std.proofs.lemmas.List.{length-drop, length-take}
+use Rattle.std.proofs.lemmas.Bool.{or_parts}
 use Rattle.kr_model.specs.pr_base.Maps.{changed}
 use Rattle.kr_model.proofs.pr_base.MapLemmas.{by_key, get-changed_same, get-changed_other, stays-changed}
 use Rattle.kr_model.specs.rv_mem.Pages.{Pages, IsWhole}
@@ -46,15 +47,10 @@ rise-filtered number test low next (x ∷ xs) rise =
       | false ↦ rise-lower low (suc (number x)) next (map_list number (filter test xs)) (omega arith) rest
     ]
 
--- neither passes
-pub neither : (a b : Bool) → (a || b) ≡ false → (a ≡ false) × (b ≡ false)
-neither true b e = absurd cc
-neither false b e = (refl, e)
-
 pub none-filtered : {A : Type 0} (passes test : A → Bool) (xs : List A) → list_any passes xs ≡ false → list_any passes (filter test xs) ≡ false
 none-filtered passes test [] none = refl
 none-filtered passes test (x ∷ xs) none =
-    let both = neither (passes x) (list_any passes xs) none in
+    let both = or_parts (passes x) (list_any passes xs) none in
     let rest = none-filtered passes test xs both.1 in
     elim (test x) as (λ b. list_any passes (cond b (x ∷ filter test xs) (filter test xs)) ≡ false) [
       | true ↦ ap (λ a. a || list_any passes (filter test xs)) both.0 ∙ rest

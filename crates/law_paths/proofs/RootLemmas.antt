@@ -4,6 +4,8 @@ use Rattle.std.specs.Prelude.{◌&&◌, bytes_eq, nat_eq}
 use Rattle.std.specs.Option.{option_map_or, unwrap_or}
 use Rattle.std.proofs.lemmas.Bool.Decides.{nat_tests}
 use Rattle.std.proofs.lemmas.Slice.Eq.{bytes_eq-Decides}
+use Rattle.std.proofs.lemmas.Option.{same_Some}
+use Rattle.std.proofs.lemmas.Bool.{and_parts}
 use Rattle.law_plans.specs.pr_base.Paths.{slash, text_of}
 use Rattle.law_plans.specs.pr_base.Texts.{Text}
 use Rattle.law_plans.specs.pr_base.WalkFrame.{may_be_free}
@@ -57,14 +59,10 @@ module _ (table : List Row) where
           never true e = cc
           never false e = cc
       by m (Node i) e =
-          let parts = both (nat_eq m 0) (nat_eq i (root_source table)) e in
+          let parts = and_parts (nat_eq m 0) (nat_eq i (root_source table)) e in
           let one : m ≡ 0 = (let holds = parts.0 in grind (arith, nat_tests)) in
           let two : i ≡ root_source table = (let holds = parts.1 in grind (arith, nat_tests)) in
           λ j. record { mount = one j; host = Node (two j) }
-        where
-          both : (a b : Bool) → (a && b) ≡ true → (a ≡ true) × (b ≡ true)
-          both true b e = (refl, e)
-          both false b e = absurd cc
 
   root_tested : is_root_place table (root_place table) ≡ true
   root_tested = let same : nat_eq (root_source table) (root_source table) ≡ true = grind (arith, nat_tests) in ap (λ b. true && b) same
@@ -105,12 +103,9 @@ module _ (table : List Row) (tags : TagTable) (s w : State ℕ Image) (pid : ℕ
         let empty : found.0 ≡ [] = sym read_back ∙ ap names_of written ∙ names_written [] (λ k d lt. absurd (none_below k lt)) in
         let on = subst (Stands (space_of table s) p.0) empty found.2 in
         let other = (roots_stand (space_of table s) set).stands in
-        let host : p.0.host ≡ (root_place table).host = some_is (sym on.way ∙ other.way) in
+        let host : p.0.host ≡ (root_place table).host = same_Some _ _ (sym on.way ∙ other.way) in
         let mount : p.0.mount ≡ (root_place table).mount = on.mount ∙ sym other.mount in
         subst (λ p. is_root_place table p ≡ true) (sym (λ j. record { mount = mount j; host = host j })) (root_tested table)
-      where
-        some_is : {A : Type 0} {a b : A} → Some a ≡ Some b → a ≡ b
-        some_is e = cc
 
     lead_tested : is_root_found table lead.place ≡ tested lead.canon
     lead_tested = ap (λ o. option_map_or (is_root_place table) o false) p.1 ∙ same_tests (is_root_place table p.0) (tested lead.canon) to_text to_root

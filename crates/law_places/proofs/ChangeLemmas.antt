@@ -4,6 +4,7 @@ use Rattle.std.proofs.Common.{◌≡◌, ℕ, zero, suc, Bool, true, false, cond
 use Rattle.std.specs.Prelude.{◌==◌, ◌&&◌, drop}
 use Rattle.std.specs.Bool.{if◌then◌else◌}
 use Rattle.std.specs.Option.{option_map_or}
+use Rattle.std.proofs.lemmas.Bool.{and_parts}
 use Rattle.kr_calm.specs.pr_base.Maps.{changed}
 use Rattle.law_walks.specs.kr_tree.Changes as tree
 use Rattle.law_walks.specs.kr_tree.declared.place.Place.{Place}
@@ -168,21 +169,17 @@ module _ (table : List Row) (mounts : Mounts ℕ) (pid : ℕ) (one : State ℕ I
 
 -- ---- changes in their order
 
-both : (a b : Bool) → (a && b) ≡ true → (a ≡ true) × (b ≡ true)
-both true b e = (refl, e)
-both false b e = absurd cc
-
 pub changes_keep_places : ChangesKeepPlaces
 changes_keep_places table mounts pid [] s q can new stand = stand
 changes_keep_places table mounts pid (c ∷ cs) s q can new stand =
-    let here = both (takes_nothing c) (take_nothing cs) q in
+    let here = and_parts (takes_nothing c) (take_nothing cs) q in
     let lawful = every-change-keeps ℕ (λ m. m) table mounts pid c s stand.lawful can.0 can.1 in
     changes_keep_places table mounts pid cs (applied images mounts pid c s) here.1 can.2 new.1 (change_keeps table mounts pid s stand c here.0 new.0 lawful)
 
 pub changes_keep_what_stands : ChangesKeepWhatStands
 changes_keep_what_stands table mounts pid [] s x q can new stand stands = stands
 changes_keep_what_stands table mounts pid (c ∷ cs) s x q can new stand stands =
-    let here = both (takes_nothing c) (take_nothing cs) q in
+    let here = and_parts (takes_nothing c) (take_nothing cs) q in
     let lawful = every-change-keeps ℕ (λ m. m) table mounts pid c s stand.lawful can.0 can.1 in
     changes_keep_what_stands table mounts pid cs (applied images mounts pid c s) x here.1 can.2 new.1 (change_keeps table mounts pid s stand c here.0 new.0 lawful) (change_carries table mounts pid s stand c x here.0 new.0 lawful stands)
 
@@ -224,7 +221,7 @@ module _ (table : List Row) (mounts : Mounts ℕ) (pid : ℕ) where
   quiet_take : (cs : List Change) (s : State ℕ Image) → are_quiet cs ≡ true → (take_nothing cs ≡ true) × NewPlacesStand table mounts pid s cs
   quiet_take [] s q = (refl, tt)
   quiet_take (c ∷ cs) s q =
-      let here = both (is_quiet c) (are_quiet cs) q in
+      let here = and_parts (is_quiet c) (are_quiet cs) q in
       let one = quiet_takes s c here.0 in
       let more = quiet_take cs (applied images mounts pid c s) here.1 in
       (ap (λ b. b && take_nothing cs) one.0 ∙ more.0, (one.1, more.1))

@@ -1,11 +1,11 @@
 -- What no process uses is none of the places in use: each open file is named by a descriptor.
 use Rattle.std.specs.FinMap as map
 use Rattle.std.proofs.Common.{◌≡◌, ℕ, zero, suc, ◌+◌, ◌≤◌, ◌<◌, Bool, true, false, cond, not, List, [], ◌∷◌, length, Option, Some, None, refl, sym, ap, subst, ◌∙◌, arith, map as map_list}
-use Rattle.std.specs.Prelude.{◌==◌, ◌&&◌, ◌||◌, sum}
+use Rattle.std.specs.Prelude.{◌==◌, ◌&&◌, sum}
 use Rattle.std.specs.Bool.{if◌then◌else◌}
 use Rattle.std.specs.List.{find, list_any}
 use Rattle.std.specs.Option.{option_and_then, option_map, option_map_or}
-use Rattle.std.proofs.lemmas.Bool.{eqb-true}
+use Rattle.std.proofs.lemmas.Bool.{or_parts, eqb-true}
 use Rattle.law_walks.specs.kr_tree.declared.place.Host.{Host}
 use Rattle.law_walks.specs.kr_tree.declared.place.Place.{Place}
 use Rattle.law_walks.proofs.kr_tree.NameLemmas.{map_some, some_is}
@@ -22,15 +22,11 @@ use Rattle.law_places.specs.Uses.{IsUse, Use, is_cwd, is_exe, is_open}
 
 -- ---- tests
 
-pub neither : (a b : Bool) → (a || b) ≡ false → (a ≡ false) × (b ≡ false)
-neither true b e = absurd cc
-neither false b e = (refl, e)
-
 -- what is found passes no test that none of a list passes
 found_fails : {A : Type 0} (test fails : A → Bool) (xs : List A) (x : A) → find test xs ≡ Some x → list_any fails xs ≡ false → fails x ≡ false
 found_fails test fails [] x e none = absurd cc
 found_fails test fails (y ∷ xs) x e none =
-    let n = neither (fails y) (list_any fails xs) none in by (test y) e n.0 (λ e. found_fails test fails xs x e n.1)
+    let n = or_parts (fails y) (list_any fails xs) none in by (test y) e n.0 (λ e. found_fails test fails xs x e n.1)
   where
     by : (b : Bool) → cond b (Some y) (find test xs) ≡ Some x → fails y ≡ false → (find test xs ≡ Some x → fails x ≡ false) → fails x ≡ false
     by true e here later = ap fails (sym (some_is y x e)) ∙ here
@@ -60,7 +56,7 @@ module _ (fails : Process ℕ Image → Bool) (n : ℕ) where
   naming : (ps : List (Process ℕ Image)) → 1 ≤ sum (map_list (λ (p : Process ℕ Image). named_count p.descs n) ps) → list_any fails ps ≡ false → (p : Process ℕ Image) × (1 ≤ named_count p.descs n) × (fails p ≡ false)
   naming [] some none = absurd (omega arith)
   naming (p ∷ ps) some none =
-      let parts = neither (fails p) (list_any fails ps) none in
+      let parts = or_parts (fails p) (list_any fails ps) none in
       by (named_count p.descs n) refl (subst (λ k. 1 ≤ k) (sum-cons (named_count p.descs n) (map_list (λ (p : Process ℕ Image). named_count p.descs n) ps)) some) parts.0 (λ more. naming ps more parts.1)
     where
       by : (k : ℕ) → named_count p.descs n ≡ k → 1 ≤ k + sum (map_list (λ (p : Process ℕ Image). named_count p.descs n) ps) → fails p ≡ false → (1 ≤ sum (map_list (λ (p : Process ℕ Image). named_count p.descs n) ps) → (p : Process ℕ Image) × (1 ≤ named_count p.descs n) × (fails p ≡ false))
@@ -85,17 +81,17 @@ module _ (table : List Row) (s : State ℕ Image) (lawful : IsLawful (λ m. m) t
 
   -- a directory in use passes no test that no directory in use passes
   pub directory_fails : (test : Host → Bool) → is_in_use test s ≡ false → (x : Use) → IsUse s x → x.is_directory ≡ true → test x.place.host ≡ false
-  directory_fails test none _ (is_cwd pid p at) dir = (neither (test p.cwd.host) _ (found_fails (is_pid pid) (process_uses test s.files) s.living p at none)).0
+  directory_fails test none _ (is_cwd pid p at) dir = (or_parts (test p.cwd.host) _ (found_fails (is_pid pid) (process_uses test s.files) s.living p at none)).0
   directory_fails test none _ (is_exe pid p at) dir = absurd cc
   directory_fails test none _ (is_open n o q at there) dir =
       sym (ap (λ b. option_map_or test (if b then option_map (λ (p : Place ℕ). p.host) o.place else None) false) dir ∙ ap (λ (p : Option (Place ℕ)). option_map_or test (option_map (λ (p : Place ℕ). p.host) p) false) there)
-      ∙ open_fails (open_directory test) (process_uses test s.files) (λ p e. (neither (test p.cwd.host) _ e).1) none n o at
+      ∙ open_fails (open_directory test) (process_uses test s.files) (λ p e. (or_parts (test p.cwd.host) _ e).1) none n o at
 
   -- nor does the directory of an entry that is remembered
   pub remembered_fails : (test : ℕ → Bool) → is_remembered test s ≡ false → (x : Use) → IsUse s x → x.is_directory ≡ false → not (length x.name == 0) ≡ true → test x.dir ≡ false
   remembered_fails test none _ (is_cwd pid p at) file some = absurd cc
   remembered_fails test none _ (is_exe pid p at) file some =
-      sym (ap (λ b. b && test p.exe_dir) some) ∙ (neither (not (length p.exe_name == 0) && test p.exe_dir) _ (found_fails (is_pid pid) (process_remembers test s.files) s.living p at none)).0
+      sym (ap (λ b. b && test p.exe_dir) some) ∙ (or_parts (not (length p.exe_name == 0) && test p.exe_dir) _ (found_fails (is_pid pid) (process_remembers test s.files) s.living p at none)).0
   remembered_fails test none _ (is_open n o q at there) file some =
       sym (ap (λ b. b && test o.dir) some)
-      ∙ open_fails (remembered_directory test) (process_remembers test s.files) (λ p e. (neither (not (length p.exe_name == 0) && test p.exe_dir) _ e).1) none n o at
+      ∙ open_fails (remembered_directory test) (process_remembers test s.files) (λ p e. (or_parts (not (length p.exe_name == 0) && test p.exe_dir) _ e).1) none n o at

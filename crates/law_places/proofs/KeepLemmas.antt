@@ -2,7 +2,7 @@
 use Rattle.std.proofs.Common.{◌≡◌, ℕ, Bool, true, false, not, List, [], ◌∷◌, refl, sym, ap, ◌∙◌}
 use Rattle.std.specs.Prelude.{◌&&◌, IsSome}
 use Rattle.std.specs.Option.{option_map_or}
-use Rattle.std.proofs.lemmas.Bool.{eq-eqb}
+use Rattle.std.proofs.lemmas.Bool.{and_parts, or_parts, eq-eqb}
 use Rattle.law_walks.specs.kr_inode.declared.user.Right.TheVariants.{Search}
 use Rattle.law_walks.specs.kr_tree.declared.place.Host.TheVariants.{Proc}
 use Rattle.law_walks.specs.kr_tree.declared.place.ProcAt.{ProcAt}
@@ -33,14 +33,10 @@ use Rattle.law_places.proofs.MoveKeepLemmas.{moves_keep_places}
 use Rattle.law_places.proofs.RemoveLemmas.{removals_keep_places}
 use Rattle.law_places.proofs.RightLemmas.{rights_keep_places}
 use Rattle.law_places.specs.Keeping.{CalmChangesKeepPlaces, CalmMovesKeepPlaces, MoveStaysInside, MovesStayInside, move_nothing, moves_nothing}
-use Rattle.law_places.proofs.InUseLemmas.{directory_fails, neither}
+use Rattle.law_places.proofs.InUseLemmas.{directory_fails}
 use Rattle.law_places.proofs.RenameLemmas.{lie_alike, spares_move}
 use Rattle.law_places.proofs.SearchLemmas.{spares_search}
 use Rattle.law_places.proofs.CalmSourceLemmas.{spares_sources}
-
-both : (a b : Bool) → (a && b) ≡ true → (a ≡ true) × (b ≡ true)
-both true b e = (refl, e)
-both false b e = absurd cc
 
 -- ---- names
 
@@ -144,9 +140,9 @@ pub calm_moves_keep_places : CalmMovesKeepPlaces
 calm_moves_keep_places table mounts pid [] s inside calm can new stand = stand
 calm_moves_keep_places table mounts pid (c ∷ cs) s inside calm can new stand =
     let next = applied images mounts pid c s in
-    let third = neither (breaks_3 table s.tree c) (changes_break_3 images mounts pid table cs next) calm.third in
-    let fourth = neither (breaks_4 pid s c next) (changes_break_4 images mounts pid cs next) calm.fourth in
-    let fifth = neither (breaks_5 table s c next) (changes_break_5 images mounts pid table cs next) calm.fifth in
+    let third = or_parts (breaks_3 table s.tree c) (changes_break_3 images mounts pid table cs next) calm.third in
+    let fourth = or_parts (breaks_4 pid s c next) (changes_break_4 images mounts pid cs next) calm.fourth in
+    let fifth = or_parts (breaks_5 table s c next) (changes_break_5 images mounts pid table cs next) calm.fifth in
     calm_moves_keep_places table mounts pid cs next inside.1 (record { third = third.1; fourth = fourth.1; fifth = fifth.1 }) can.2 new.1
     (calm_change table mounts pid s stand can.0 c inside.0 third.0 fourth.0 fifth.0 can.1 new.0)
 
@@ -158,7 +154,7 @@ stays_inside table s _ still = tt
 pub stay_inside : (table : List Row) (mounts : Mounts ℕ) (pid : ℕ) (cs : List Change) (s : State ℕ Image) → move_nothing cs ≡ true → MovesStayInside table mounts pid s cs
 stay_inside table mounts pid [] s still = tt
 stay_inside table mounts pid (c ∷ cs) s still =
-    let here = both (moves_nothing c) (move_nothing cs) still in
+    let here = and_parts (moves_nothing c) (move_nothing cs) still in
     (stays_inside table s c here.0, stay_inside table mounts pid cs (applied images mounts pid c s) here.1)
 
 pub calm_changes_keep_places : CalmChangesKeepPlaces

@@ -1,7 +1,7 @@
 -- What remembers an entry: its directory and name are those, and the name isn't empty.
 use Rattle.std.proofs.Common.{◌≡◌, ◌≢◌, ℕ, Bool, true, false, not, List, [], ◌∷◌, length, bytes_eq, refl, sym, ap, ◌∙◌, arith}
 use Rattle.std.specs.Prelude.{◌==◌, ◌&&◌, ◌||◌}
-use Rattle.std.proofs.lemmas.Bool.{eq-eqb, eqb-true, ne_eqb}
+use Rattle.std.proofs.lemmas.Bool.{and_parts, eq-eqb, eqb-true, ne_eqb}
 use Rattle.std.proofs.lemmas.Slice.Eq.{bytes_eq-Decides}
 
 pub filled_length : (n : List ℕ) → n ≢ [] → (length n == 0) ≡ false
@@ -16,13 +16,9 @@ has_name_by false n e = e
 module _ (dir : ℕ) (name : List ℕ) where
   pub remembering : (d : ℕ) (n : List ℕ) → (not (length n == 0) && (d == dir && bytes_eq n name)) ≡ true → (not (length n == 0) ≡ true) × (d ≡ dir) × (n ≡ name)
   remembering d n e =
-      let a = both (not (length n == 0)) (d == dir && bytes_eq n name) e in
-      let b = both (d == dir) (bytes_eq n name) a.1 in
+      let a = and_parts (not (length n == 0)) (d == dir && bytes_eq n name) e in
+      let b = and_parts (d == dir) (bytes_eq n name) a.1 in
       (a.0, eqb-true d dir b.0, (bytes_eq-Decides n name).0 b.1)
-    where
-      both : (a b : Bool) → (a && b) ≡ true → (a ≡ true) × (b ≡ true)
-      both true b e = (refl, e)
-      both false b e = absurd cc
 
   module _ (some : name ≢ []) where
     remembered : (d : ℕ) (n : List ℕ) → d ≡ dir → n ≡ name → (not (length n == 0) && (d == dir && bytes_eq n name)) ≡ true

@@ -3,6 +3,7 @@
 use Rattle.std.proofs.Common.{◌≡◌, ℕ, Bool, true, false, List, Some, refl, sym, ap, ◌∙◌}
 use Rattle.std.specs.Prelude.{◌||◌}
 use Rattle.std.specs.Option.{option_map_or}
+use Rattle.std.proofs.lemmas.Bool.{or_parts}
 use Rattle.law_walks.specs.kr_tree.declared.place.Host.TheVariants.{Node}
 use Rattle.law_walks.specs.kr_tree.Tree.{Tree, entry}
 use Rattle.law_walks.specs.kr_view.View.{Point, Row, row}
@@ -13,7 +14,7 @@ use Rattle.law_walks.specs.kr_model.Change.{MoveName}
 use Rattle.law_walks.specs.kr_model.State.{Image, State, inode_of}
 use Rattle.law_places.specs.Moving.{IsAboveNoRow, IsAboveNoUse, LieAlike, SparesMove}
 use Rattle.law_places.specs.Standing.{PlacesStand}
-use Rattle.law_places.proofs.InUseLemmas.{directory_fails, neither}
+use Rattle.law_places.proofs.InUseLemmas.{directory_fails}
 use Rattle.law_places.proofs.SearchLemmas.{not_below, row_fails}
 use Rattle.law_places.proofs.CalmSourceLemmas.{spares_sources}
 
@@ -34,7 +35,7 @@ module _ (table : List Row) (s : State ℕ Image) (stand : PlacesStand table s) 
 
   no_rows : (i : ℕ) → is_above_rows table t i ≡ false → IsAboveNoRow table s i
   no_rows i none k r there =
-      let parts = neither (is_at_or_below t i r.source_dir) (is_above_point t i r) (row_fails (is_above_row t i) table k r none there) in (
+      let parts = or_parts (is_at_or_below t i r.source_dir) (is_above_point t i r) (row_fails (is_above_row t i) table k r none there) in (
         not_below table s stand i r.source_dir parts.0,
         λ p at. not_below table s stand i p.dir (ap (λ o. option_map_or (λ (p : Point). is_at_or_below t i p.dir) o false) (sym at) ∙ parts.1),
       )
@@ -44,9 +45,9 @@ module _ (table : List Row) (s : State ℕ Image) (stand : PlacesStand table s) 
 
   pub spares_move : (dir : ℕ) (name : List ℕ) (to : ℕ) (new : List ℕ) → breaks_3 table t (MoveName dir name to new) ≡ false → takes_in_use s (MoveName dir name to new) ≡ false → SparesMove table s dir name to new
   spares_move dir name to new third fourth =
-      let sources = neither (names_source table dir name || names_source table to new) (of_entry t dir name (is_above_rows table t)) third in
-      let both = neither (names_source table dir name) (names_source table to new) sources.0 in
-      let uses = neither (of_entry t dir name (is_above_use s)) (of_entry t to new (is_above_use s)) fourth in
+      let sources = or_parts (names_source table dir name || names_source table to new) (of_entry t dir name (is_above_rows table t)) third in
+      let both = or_parts (names_source table dir name) (names_source table to new) sources.0 in
+      let uses = or_parts (of_entry t dir name (is_above_use s)) (of_entry t to new (is_above_use s)) fourth in
       record {
         old_source = spares_sources table dir name both.0;
         new_source = spares_sources table to new both.1;
@@ -68,7 +69,7 @@ module _ (table : List Row) (s : State ℕ Image) (stand : PlacesStand table s) 
   }
     where
       parts : (k : ℕ) (r : Row) → row table k ≡ Some r → (differ (is_below_source t dir r) (is_below_source t to r) ≡ false) × (differ (is_below_point t dir r) (is_below_point t to r) ≡ false)
-      parts k r there = neither (differ (is_below_source t dir r) (is_below_source t to r)) (differ (is_below_point t dir r) (is_below_point t to r)) (row_fails (is_between t dir to) table k r together there)
+      parts k r there = or_parts (differ (is_below_source t dir r) (is_below_source t to r)) (differ (is_below_point t dir r) (is_below_point t to r)) (row_fails (is_between t dir to) table k r together there)
 
       at_point : (d : ℕ) (r : Row) (p : Point) (i : ℕ) → r.point ≡ Some p → entry t p.dir p.name ≡ Some i → is_below_point t d r ≡ is_at_or_below t i d
       at_point d r p i at leads = ap (λ o. option_map_or (is_below_entry t d) o false) at ∙ ap (λ o. option_map_or (λ i. is_at_or_below t i d) o false) leads

@@ -3,7 +3,7 @@ use Rattle.std.proofs.Common.{◌≡◌, ◌≢◌, ℕ, Bool, true, false, not,
 use Rattle.std.specs.Prelude.{◌==◌, ◌&&◌, ◌||◌}
 use Rattle.std.specs.List.{list_any}
 use Rattle.std.specs.Option.{option_map, option_map_or}
-use Rattle.std.proofs.lemmas.Bool.{eqb-true, false_from_ne_true}
+use Rattle.std.proofs.lemmas.Bool.{or_parts, eqb-true, false_from_ne_true}
 use Rattle.kr_calm.specs.pr_base.MountText.{MountText}
 use Rattle.kr_calm.specs.pr_base.Texts.{Text}
 use Rattle.law_walks.specs.pt_bind.Binding.{host_of, located}
@@ -34,7 +34,7 @@ use Rattle.law_places.specs.Standing.{PlacesStand, StandsAs}
 use Rattle.law_places.specs.Taking.{SparesSearch}
 use Rattle.law_places.specs.Uses.{IsUse, Use, has_name}
 use Rattle.law_places.proofs.KeptLemmas.{host_lasts}
-use Rattle.law_places.proofs.InUseLemmas.{directory_fails, neither, remembered_fails}
+use Rattle.law_places.proofs.InUseLemmas.{directory_fails, remembered_fails}
 
 -- a row that fails a test which none passes
 pub row_fails : (test : Row → Bool) (table : List Row) (k : ℕ) (r : Row) → list_any test table ≡ false → row table k ≡ Some r → test r ≡ false
@@ -147,7 +147,7 @@ module _ (table : List Row) (s : State ℕ Image) (stand : PlacesStand table s) 
             let source : reach m.mount.text.source ≡ Some (Node m.mount.source) = inode_reached t s.user finds m.mount.text.source m.mount.source (stand.settled.sources k m.mount m.there) in
             let is : x ≡ Node m.mount.source = some_is x (Node m.mount.source) (sym way ∙ ap reach (host_some bindings n y k e ∙ source_text table k m.mount m.there) ∙ source) in
             let listed : body_is is_directory t m.mount.source ≡ true = ap (is_directory_at t) (sym is) ∙ dir in
-            let mount = (neither (is_above_source t i m.mount) _ (row_far k m.mount m.there)).1 in
+            let mount = (or_parts (is_above_source t i m.mount) _ (row_far k m.mount m.there)).1 in
             let point : is_above_point t i m.mount ≡ false = ap (λ b. b && is_above_point t i m.mount) (sym listed) ∙ mount in
             let low : is_at_or_below t i m.point.dir ≡ false = ap (λ p. option_map_or (λ (p : Point). is_at_or_below t i p.dir) p false) (sym m.stands) ∙ point in
             subst (λ (d : Host). ¬ IsBelow t i (inode_of d)) (sym node) (not_below m.point.dir low)
@@ -164,11 +164,11 @@ module _ (table : List Row) (s : State ℕ Image) (stand : PlacesStand table s) 
 
         source : (k : ℕ) (r : Row) → row table k ≡ Some r → (b : Bool) → r.is_dir ≡ b → KeepsWay lost t r.text.source
         source k r there true is =
-            let far = (neither (is_at_or_below t i r.source) _ (neither (is_above_source t i r) _ (row_far k r there)).0).0 in
+            let far = (or_parts (is_at_or_below t i r.source) _ (or_parts (is_above_source t i r) _ (row_far k r there)).0).0 in
             way_far r.text.source (Node r.source) (inode_reached t s.user finds r.text.source r.source (stand.settled.sources k r there))
             (body_test is_directory t r.source ∙ kind (body t r.source) true (stand.settled.mounts.sources k r there ∙ ap Some is)) (not_below r.source far)
         source k r there false is =
-            let far = (neither (is_at_or_below t i r.source) (is_at_or_below t i r.source_dir) (neither (is_above_source t i r) _ (row_far k r there)).0).1 in
+            let far = (or_parts (is_at_or_below t i r.source) (is_at_or_below t i r.source_dir) (or_parts (is_above_source t i r) _ (row_far k r there)).0).1 in
             let e = stand.settled.entries k r there is in
             subst (KeepsWay lost t) (sym e.text)
             (entry_far r.source_name e.up (Node r.source) r.source_dir (ap reach (sym e.text) ∙ inode_reached t s.user finds r.text.source r.source (stand.settled.sources k r there)) (inode_reached t s.user finds e.up r.source_dir e.way) (not_below r.source_dir far))
@@ -180,7 +180,7 @@ module _ (table : List Row) (s : State ℕ Image) (stand : PlacesStand table s) 
     }
       where
         parts : (is_above_use s i ≡ false) × (is_remembered (is_at_or_below t i) s ≡ false)
-        parts = neither (is_above_use s i) (is_remembered (is_at_or_below t i) s) unused
+        parts = or_parts (is_above_use s i) (is_remembered (is_at_or_below t i) s) unused
 
         some_name : (b : Bool) → x.is_directory ≡ false → (x.is_directory || b) ≡ true → b ≡ true
         some_name b file called = ap (λ d. d || b) (sym file) ∙ called
@@ -237,5 +237,5 @@ module _ (table : List Row) (s : State ℕ Image) (stand : PlacesStand table s) 
       by : (b : Bool) → body_is is_directory t i ≡ b → (b && (list_any (serves_row t i) table || serves_use s i)) ≡ false → SparesSearch table s i
       by false flat e = spares_flat flat
       by true dir e =
-          let parts = neither (list_any (serves_row t i) table) (serves_use s i) e in
+          let parts = or_parts (list_any (serves_row t i) table) (serves_use s i) e in
           record { mounts = table_far parts.0; uses = use_far parts.0 parts.1 }

@@ -12,8 +12,7 @@ use Rattle.law_edits.specs.pt_bind.Tags.{TagTable}
 use Rattle.law_places.specs.pt_canon.declared.canon.Canon.{Canon}
 use Rattle.law_edits.specs.pt_args.Points.{one_is_busy}
 use Rattle.law_edits.specs.kr_calls.Arguments.{has}
-use Rattle.law_edits.specs.kr_calls.CallTable.{Told, ToldNothing, LooksAt, NamesHere, line, paths_of, walked_for}
-use Rattle.law_edits.specs.Requests.{with_first}
+use Rattle.law_edits.specs.kr_calls.CallTable.{Told, ToldNothing, LooksAt, NamesHere, line, paths_of, walked_for, with_first}
 use Rattle.law_edits.specs.kr_calls.PathTable.{PathUse, look_mode, path_at, path_from}
 use Rattle.law_edits.specs.kr_calls.declared.request.Request.{Request}
 use Rattle.law_edits.specs.kr_calls.declared.request.Request.TheVariants as call

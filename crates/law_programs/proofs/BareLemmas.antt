@@ -1,6 +1,7 @@
 -- Where no marked byte is read of a list, its addresses aren't marked.
-use Rattle.std.proofs.Common.{◌≡◌, ℕ, zero, suc, ◌+◌, ◌-◌, ◌*◌, ◌≤◌, inl, inr, Bool, true, false, cond, ◌||◌, List, [], ◌∷◌, ◌++◌, length, nat_lt, Result, Ok, Err, refl, sym, ap, ◌∙◌, subst, arith}
+use Rattle.std.proofs.Common.{◌≡◌, ℕ, zero, suc, ◌+◌, ◌-◌, ◌*◌, ◌≤◌, inl, inr, false, cond, ◌||◌, List, [], ◌∷◌, ◌++◌, length, nat_lt, Result, Ok, Err, sym, ap, ◌∙◌, subst, arith}
 use Rattle.std.proofs.lemmas.Bool.Decides.{nat_tests}
+use Rattle.std.proofs.lemmas.Bool.{or_parts}
 use Rattle.kr_first.specs.pr_base.declared.errno.Errno.{Errno}
 use Rattle.pt_args.specs.rv_mem.Actions.{Action, AreEqualUnmarked, CarriedOut, Done, ReadBytes, carried_out}
 use Rattle.pt_args.specs.rv_mem.Memory.{Memory, after_read}
@@ -19,10 +20,6 @@ use Rattle.law_programs.proofs.CopyLemmas.{next-is}
 use Rattle.law_programs.proofs.ListLemmas.{Texts, after_text, more-bytes, read_lists_stand, texts-step}
 
 -- ---- flags
-
-neither : (a b : Bool) → (a || b) ≡ false → (a ≡ false) × (b ≡ false)
-neither true b e = absurd cc
-neither false b e = (refl, e)
 
 -- what came before it didn't raise the flag either
 flag-before : {A B : Type 0} (next : A → Trying B) (r : Result A Errno) (m : Memory) → (on_reply next r m).memory.read_marked ≡ false → m.read_marked ≡ false
@@ -45,8 +42,8 @@ bare (suc left) at room m (text ∷ texts) stands few small unread =
     let d = carried_out rest later in
     let step = ap (λ (d : CarriedOut (Result Texts Errno)). d.memory.read_marked) (texts-step left at room m text stands.0 (omega (arith, small))) in
     let after = flag-before (behind text) d.reply d.memory (sym step ∙ unread) in
-    let own = neither (m.read_marked || any_marked m.pages at 8) _ (flag_stays rest later after) in
-    ((neither m.read_marked (any_marked m.pages at 8) own.0).1, bare left (next_address at) (room - (length text + 1)) later texts stands.1 (omega (arith, few)) (omega (arith, small)) after)
+    let own = or_parts (m.read_marked || any_marked m.pages at 8) _ (flag_stays rest later after) in
+    ((or_parts m.read_marked (any_marked m.pages at 8) own.0).1, bare left (next_address at) (room - (length text + 1)) later texts stands.1 (omega (arith, few)) (omega (arith, small)) after)
 
 bare-list : (at : ℕ) (m : Memory) (texts : Texts) → IsListAt m.pages at texts → length texts ≤ most_texts → bytes_with_ends texts ≤ most_bytes → (carried_out (list_at at most_bytes) m).memory.read_marked ≡ false → AreBare m.pages at texts
 bare-list at m texts (inl none) few small unread = subst (AreBare m.pages at) (sym none.1) tt
@@ -76,8 +73,8 @@ bytes-alike m w at (text ∷ texts) placed alike list none =
 
 fits-list : (args env : Texts) → are_too_big args env ≡ false → (length args ≤ most_texts) × (bytes_with_ends args ≤ most_bytes)
 fits-list args env fits =
-    let behind = (neither (nat_lt 4096 (length env)) _ fits).1 in
-    let own = neither (nat_lt 4096 (length args)) _ behind in
+    let behind = (or_parts (nat_lt 4096 (length env)) _ fits).1 in
+    let own = or_parts (nat_lt 4096 (length args)) _ behind in
     (within (length args) 4096 own.0, less (within (bytes_with_ends args + bytes_with_ends env) 131072 own.1))
   where
     within : (k most : ℕ) → nat_lt most k ≡ false → k ≤ most

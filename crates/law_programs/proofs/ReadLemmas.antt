@@ -1,8 +1,9 @@
 -- The plain kernel reads of a script's shelf what the tracer found.
-use Rattle.std.proofs.Common.{◌≡◌, ℕ, ◌+◌, ◌-◌, ◌*◌, ◌<◌, ◌≤◌, inl, inr, Bool, true, false, cond, ◌||◌, List, [], ◌∷◌, ◌++◌, drop, length, nat_lt, Ok, Err, refl, sym, ap, ◌∙◌, subst, arith}
+use Rattle.std.proofs.Common.{◌≡◌, ℕ, ◌+◌, ◌-◌, ◌*◌, ◌<◌, ◌≤◌, inl, inr, Bool, true, false, cond, List, [], ◌∷◌, ◌++◌, drop, length, nat_lt, Ok, Err, sym, ap, ◌∙◌, subst, arith}
 use Rattle.std.specs.Prelude.{nat_eq}
 use Rattle.std.proofs.lemmas.Bool.Decides.{nat_tests}
 use Rattle.std.proofs.lemmas.List.{length-drop}
+use Rattle.std.proofs.lemmas.Bool.{or_parts}
 use Rattle.kr_first.specs.pr_base.declared.errno.Errno.TheVariants.{EFAULT}
 use Rattle.pt_args.specs.rv_mem.Actions.{Done, ReadBytes, allows_uses, carried_out}
 use Rattle.pt_args.specs.rv_mem.Memory.{Memory}
@@ -47,10 +48,6 @@ addresses-are at count m kept e = by (allows_uses m.pages (next_address at) (8 *
     by true e = ok_same e
     by false e = absurd (err_ok e)
 
-neither : (a b : Bool) → (a || b) ≡ false → (a ≡ false) × (b ≡ false)
-neither true b e = absurd cc
-neither false b e = (refl, e)
-
 at-most : (k most : ℕ) → nat_lt most k ≡ false → k ≤ most
 at-most k most e = grind (arith, nat_tests)
 
@@ -80,10 +77,10 @@ script_lists_are_read hold texts pid args env sp path here before behind lists e
     let low = stands.low in
     let high = is.high in
     let nonzero : nat_eq shelf.top 0 ≡ false = other shelf.top (omega (arith, low, high, room)) in
-    let limits = neither (nat_lt 4096 (length e.args)) _ (scripts_keep_the_limits texts pid (bytes_with_ends lists.env) path lists.args e path_is ends some) in
+    let limits = or_parts (nat_lt 4096 (length e.args)) _ (scripts_keep_the_limits texts pid (bytes_with_ends lists.env) path lists.args e path_is ends some) in
     let few = at-most (length e.args) 4096 limits.0 in
     let small = at-most (bytes_with_ends e.args + bytes_with_ends lists.env) 131072 limits.1 in
-    let many = at-most (length lists.env) 4096 (neither (nat_lt 4096 (length lists.env)) _ (lists_fit args env here lists is.reads)).0 in
+    let many = at-most (length lists.env) 4096 (or_parts (nat_lt 4096 (length lists.env)) _ (lists_fit args env here lists is.reads)).0 in
     let first = shown-put texts (working_text texts pid) (bytes_with_ends lists.env) path lists.args e path_is ends some in
     by e.args first.first (first.rest ++ rest) first.args there nonzero few small many stand.3
   where

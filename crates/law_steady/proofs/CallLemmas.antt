@@ -1,11 +1,12 @@
 -- Which calls make changes that can alter the shape and the bytes of files, and how often.
 use Rattle.std.proofs.Common.{◌≡◌, ℕ, ℤ, Bool, true, false, not, ◌&&◌, ◌||◌, List, [], ◌∷◌, Option, Some, None, Result, Ok, Err, refl, ap, ◌∙◌, cond}
-use Rattle.std.specs.List.{list_all}
+use Rattle.std.specs.List.{list_all, list_any}
 use Rattle.std.specs.Option.{option_map_or}
 use Rattle.law_lawful.specs.pr_base.declared.errno.Errno.{Errno}
 use Rattle.law_lawful.specs.pr_base.declared.errno.Errno.TheVariants.{ENOENT}
 use Rattle.law_lawful.specs.rv_mem.Memory.{Memory}
-use Rattle.law_lawful.specs.kr_calls.Kinds.{AddsNode, Kind, LinksNode, MovesName, RemovesName, SetsMode, SetsOwner, SetsSize, WritesFile}
+use Rattle.law_lawful.specs.kr_calls.CallTable.{ending_too, line}
+use Rattle.law_lawful.specs.kr_calls.Kinds.{Ends as EndsCaller, Kind, has_kind}
 use Rattle.law_lawful.specs.kr_calls.declared.request.Request.{Request}
 use Rattle.law_lawful.specs.kr_calls.declared.request.Request.TheVariants as call
 use Rattle.law_lawful.specs.kr_files.declared.opened.Opened.{Opened}
@@ -23,7 +24,7 @@ use Rattle.law_lawful.specs.kr_model.Seen.{Links, Looked, LooksUp, Made, MakesEn
 use Rattle.law_lawful.specs.kr_model.State.{Image, State}
 use Rattle.law_lawful.specs.kr_model.Walks.{Targets, created_at, if_found, looked_at, opened_at, seen as seen_of_paths, seen_of, targets_of}
 use Rattle.law_lawful.proofs.kr_model.LineLemmas.{by_line, line_passes}
-use Rattle.law_steady.specs.Calls.{CallsAlterOnce, CallsLeaveBytes, CallsLeaveShape, ProgramsLeaveBoth, alter_one_file, are_few, is_beside, is_once, may_alter_bytes, may_alter_shape, replied}
+use Rattle.law_steady.specs.Calls.{CallsAlterOnce, CallsLeaveBytes, CallsLeaveShape, ProgramsLeaveBoth, alter_one_file, are_few, bytes_kinds, is_beside, is_once, may_alter_bytes, may_alter_shape, replied, shape_kinds}
 use Rattle.law_steady.proofs.EndLemmas.{Ends, ends_pass, refused}
 use Rattle.law_steady.proofs.OnceRows.{Once, fchmod_once, fchmodat_once, fchown_once, fchownat_here_once, fchownat_once, ftruncate_once, linkat_once, mkdirat_once, renameat2_once, symlinkat_once, unlinkat_once, write_once, writev_once}
 use Rattle.law_steady.proofs.OpeningRows.{found_opened, openat_ends}
@@ -32,18 +33,29 @@ use Rattle.law_steady.proofs.OpeningRows.{found_opened, openat_ends}
 
 -- kinds that can't alter the shape, and those that can't alter bytes
 abbrev keeps_shape : Kind → Bool
-keeps_shape AddsNode = false
-keeps_shape LinksNode = false
-keeps_shape RemovesName = false
-keeps_shape MovesName = false
-keeps_shape SetsMode = false
-keeps_shape SetsOwner = false
-keeps_shape _ = true
+keeps_shape k = not (has_kind shape_kinds k)
 
 abbrev keeps_bytes : Kind → Bool
-keeps_bytes SetsSize = false
-keeps_bytes WritesFile = false
-keeps_bytes _ = true
+keeps_bytes k = not (has_kind bytes_kinds k)
+
+-- a line without such a kind passes; the end of its caller is of neither kind
+none_passes : (test : Kind → Bool) (kinds : List Kind) → list_any test kinds ≡ false → list_all (λ k. not (test k)) kinds ≡ true
+none_passes test [] none = refl
+none_passes test (k ∷ kinds) none = by (test k) none (none_passes test kinds)
+  where
+    by : (b : Bool) → (b || list_any test kinds) ≡ false → (list_any test kinds ≡ false → list_all (λ k. not (test k)) kinds ≡ true) → (not b && list_all (λ k. not (test k)) kinds) ≡ true
+    by true none rest = absurd cc
+    by false none rest = rest none
+
+line_without : (test : Kind → Bool) → test EndsCaller ≡ false → (r : Request) → list_any test (line r).does.makes ≡ false → line_passes (λ k. not (test k)) r ≡ true
+line_without test goes r none = by (line r).does.ends_by
+  where
+    passed : list_all (λ k. not (test k)) (line r).does.makes ≡ true
+    passed = none_passes test (line r).does.makes none
+
+    by : (word : Option ℕ) → list_all (λ k. not (test k)) (ending_too word (line r).does.makes) ≡ true
+    by None = passed
+    by (Some word) = ap (λ b. not b && list_all (λ k. not (test k)) (line r).does.makes) goes ∙ passed
 
 shape_kept : (c : Change) → keeps_shape (kind c) ≡ true → not (alters_shape c) ≡ true
 shape_kept (AddNode dir name mode uid gid body) keeps = absurd cc
@@ -149,16 +161,7 @@ module _ (table : List Row) (pid : ℕ) (s : State ℕ Image) (k : Known) (m : M
   leave_shape (call.Openat dirfd path flags permissions) plain =
       let r = call.Openat dirfd path flags permissions in
       ends_pass (operation pid r (seen_of_paths table pid s r) k) (plainly_opened table pid s k dirfd path flags permissions plain (targets_of table pid s r)) m
-  leave_shape (call.Mkdirat dirfd path permissions) plain = absurd cc
-  leave_shape (call.Unlinkat dirfd path flags) plain = absurd cc
-  leave_shape (call.Symlinkat text dirfd path) plain = absurd cc
-  leave_shape (call.Linkat olddir old newdir new flags) plain = absurd cc
-  leave_shape (call.Renameat2 olddir old newdir new) plain = absurd cc
-  leave_shape (call.Fchmod fd permissions) plain = absurd cc
-  leave_shape (call.Fchmodat dirfd path permissions) plain = absurd cc
-  leave_shape (call.Fchown fd uid gid) plain = absurd cc
-  leave_shape (call.Fchownat dirfd path uid gid flags) plain = absurd cc
-  leave_shape r plain = shape_by_line pid r (seen_of_paths table pid s r) k m refl
+  leave_shape r plain = shape_by_line pid r (seen_of_paths table pid s r) k m (line_without (has_kind shape_kinds) refl r plain)
 
 pub calls_leave_shape : CallsLeaveShape
 calls_leave_shape table pid s r k m exec plain = leave_shape table pid s k m r plain
@@ -185,10 +188,7 @@ module _ (pid : ℕ) (seen : Seen) (k : Known) (m : Memory) where
       ends_pass {test = leaves_bytes} (operation pid (call.Openat dirfd path flags permissions) seen k)
       (opened_ends refl seen
       (λ o. openat_ends refl flags (λ fd cloexec o. refl) (uncut (truncates flags) plain) permissions (λ d name mode uid gid fd cloexec o. refl) k o)) m
-  leave_bytes (call.Write fd buf n) plain = absurd cc
-  leave_bytes (call.Writev fd list count) plain = absurd cc
-  leave_bytes (call.Ftruncate fd len) plain = absurd cc
-  leave_bytes r plain = bytes_by_line pid r seen k m refl
+  leave_bytes r plain = bytes_by_line pid r seen k m (line_without (has_kind bytes_kinds) refl r plain)
 
   by_row : (r : Request) → Once (operation pid r seen k) → are_few (replied pid r seen k m) ≡ true
   by_row r once = ends_pass (operation pid r seen k) once m

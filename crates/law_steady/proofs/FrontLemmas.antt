@@ -13,10 +13,10 @@ use Rattle.law_lawful.specs.kr_view.Component.{Surroundings, is_directory_at, lo
 use Rattle.law_lawful.specs.kr_view.View.{plain, root_place}
 use Rattle.law_lawful.specs.kr_view.Walk.{PlaceTrail, looking as looking_at}
 use Rattle.law_lawful.specs.kr_model.HostView.{host_around_of}
+use Rattle.law_lawful.specs.kr_model.Peeks.{host_walk, is_steady_path}
 use Rattle.law_lawful.specs.kr_model.State.{State}
 use Rattle.pt_canon.specs.TextWalk.{itself_in}
 use Rattle.law_steady.specs.Fronts.{FrontsAreSteady}
-use Rattle.law_steady.specs.Steady.{host_walk, is_steady_path}
 use Rattle.law_steady.proofs.SteadyLemmas.{IsApart, apart_steady, steady_apart}
 
 module _ {S F : Type 0} (looking : Looking S F) (Fine : LookedAt S → Type 0)

@@ -21,17 +21,17 @@ use Rattle.law_lawful.specs.kr_tree.declared.place.Place.{Place}
 use Rattle.law_lawful.specs.kr_view.declared.target.Reach.{Reach}
 use Rattle.law_lawful.specs.kr_view.Component.{SeenPlace, Surroundings, look_up, meets_processes, seen_at}
 use Rattle.law_lawful.specs.kr_view.Living.{finds_among}
-use Rattle.law_lawful.specs.kr_view.Reach.{landings_reach, look_reach, looks_reach, reach_after, reached_landing}
+use Rattle.law_lawful.specs.kr_view.Reach.{is_steady, landings_reach, look_reach, looks_reach, nothing, reach_after, reached_landing}
 use Rattle.law_lawful.specs.kr_view.View.{plain, root_place}
 use Rattle.law_lawful.specs.kr_view.Walk.{PlaceTarget, PlaceTrail, looking, place_walk}
 use Rattle.law_lawful.specs.kr_model.HostView.{host_around_of, host_leads}
 use Rattle.law_lawful.specs.kr_model.Judged.{IsReachedStill}
-use Rattle.law_lawful.specs.kr_model.Peeks.{answer_along, at_found, body_head, body_text, head_at, kind_of_answer, kind_seen, link_text_at, read_at, read_of}
+use Rattle.law_lawful.specs.kr_model.Peeks.{answer_along, at_found, body_head, body_text, head_at, host_walk, is_steady_in, is_steady_path, kind_of_answer, kind_seen, link_text_at, read_at, read_of}
 use Rattle.law_lawful.specs.kr_model.ProcessDirectory.{living_of}
 use Rattle.law_lawful.specs.kr_model.State.{State}
 use Rattle.pt_canon.specs.pr_base.SameWalks.{ShowsTheSame}
 use Rattle.pt_canon.specs.pr_base.KeptWalks.{GoesOn, IsFromGood, IsKeptAlong}
-use Rattle.law_steady.specs.Steady.{HaveOneShape, PeeksLast, SteadyPeeksLast, SteadyWalksLast, WalkLasts, host_walk, is_steady, is_steady_in, is_steady_path, nothing}
+use Rattle.law_steady.specs.Steady.{HaveOneShape, PeeksLast, SteadyPeeksLast, SteadyWalksLast, WalkLasts}
 use Rattle.pt_canon.proofs.pr_base.SameWalkLemmas.{path_same}
 use Rattle.pt_canon.proofs.pr_base.KeptWalkLemmas.{path_well}
 use Rattle.law_steady.proofs.LookLemmas.{IsNamedPlace, IsNamedSight, look_same, look_sight, meets_same, named_root, place_same, place_sight}

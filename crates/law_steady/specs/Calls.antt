@@ -1,8 +1,10 @@
 -- Which calls make changes that can alter the shape of the tree or the bytes of files, and how many of them one call makes.
 use Rattle.std.specs.Prelude.{◌≡◌, ℕ, Bool, true, false, ◌&&◌, ◌||◌, not, List, [], ◌∷◌, if◌then◌else◌}
-use Rattle.std.specs.List.{list_all}
+use Rattle.std.specs.List.{list_all, list_any}
 use Rattle.law_lawful.specs.rv_mem.Actions.{carried_out}
 use Rattle.law_lawful.specs.rv_mem.Memory.{Memory}
+use Rattle.law_lawful.specs.kr_calls.CallTable.{line}
+use Rattle.law_lawful.specs.kr_calls.Kinds.{AddsNode, Kind, LinksNode, MovesName, RemovesName, SetsMode, SetsOwner, SetsSize, WritesFile, has_kind}
 use Rattle.law_lawful.specs.kr_calls.declared.request.Request.{Request}
 use Rattle.law_lawful.specs.kr_calls.declared.request.Request.TheVariants as call
 use Rattle.law_lawful.specs.kr_tree.declared.place.Host.{Host}
@@ -18,27 +20,22 @@ use Rattle.law_lawful.specs.kr_model.Walks.{seen as seen_of_paths}
 
 -- ---- calls
 
+-- the kinds of changes that can alter the shape, and those that can alter the bytes of a file
+abbrev pub shape_kinds : List Kind
+shape_kinds = AddsNode ∷ LinksNode ∷ RemovesName ∷ MovesName ∷ SetsMode ∷ SetsOwner ∷ []
+
+abbrev pub bytes_kinds : List Kind
+bytes_kinds = SetsSize ∷ WritesFile ∷ []
+
 -- openat(2) with O_CREAT, and the calls that make, remove and move names and that set modes and owners
 abbrev pub may_alter_shape : Request → Bool
 may_alter_shape (call.Openat dirfd path flags permissions) = creates flags
-may_alter_shape (call.Mkdirat dirfd path permissions) = true
-may_alter_shape (call.Unlinkat dirfd path flags) = true
-may_alter_shape (call.Symlinkat text dirfd path) = true
-may_alter_shape (call.Linkat olddir old newdir new flags) = true
-may_alter_shape (call.Renameat2 olddir old newdir new) = true
-may_alter_shape (call.Fchmod fd permissions) = true
-may_alter_shape (call.Fchmodat dirfd path permissions) = true
-may_alter_shape (call.Fchown fd uid gid) = true
-may_alter_shape (call.Fchownat dirfd path uid gid flags) = true
-may_alter_shape _ = false
+may_alter_shape r = list_any (has_kind shape_kinds) (line r).does.makes
 
 -- writes, a cut, and openat(2) with O_TRUNC
 abbrev pub may_alter_bytes : Request → Bool
-may_alter_bytes (call.Write fd buf n) = true
-may_alter_bytes (call.Writev fd list count) = true
-may_alter_bytes (call.Ftruncate fd len) = true
 may_alter_bytes (call.Openat dirfd path flags permissions) = truncates flags
-may_alter_bytes _ = false
+may_alter_bytes r = list_any (has_kind bytes_kinds) (line r).does.makes
 
 -- the changes that a call replies, of what it is told of its paths
 abbrev pub replied : ℕ → Request → Seen → Known → Memory → List Change

@@ -2,8 +2,8 @@
 use Rattle.std.specs.Prelude.{◌≡◌, ℕ, true, List, ◌∷◌}
 use Rattle.pt_canon.specs.pr_base.Paths.{AreParts, text_of}
 use Rattle.pt_canon.specs.TextWalk.{itself_in}
+use Rattle.law_lawful.specs.kr_model.Peeks.{is_steady_path}
 use Rattle.law_lawful.specs.kr_model.State.{State}
-use Rattle.law_steady.specs.Steady.{is_steady_path}
 
 -- the directory above a steady text is steady, and so is that directory looked up in itself
 abbrev pub FrontsAreSteady : Type 0 → Type 0 → Type 0

@@ -1,40 +1,11 @@
--- Steady host paths: the plain walk along them looks up no name in the process directory. And what lasts where the shape of the
--- tree and the user stay.
-use Rattle.std.specs.Prelude.{◌≡◌, ◌≢◌, ℕ, Bool, true, false, not, List, Ok}
+-- What lasts of steady host walks, which look up no name in the process directory, where the shape of the tree and the user stay.
+use Rattle.std.specs.Prelude.{◌≡◌, ◌≢◌, ℕ, true, List, Ok}
 use Rattle.pt_canon.specs.pr_base.declared.path.WalkMode.{WalkMode}
-use Rattle.pt_canon.specs.pr_base.declared.path.WalkMode.TheVariants.{LookLink}
 use Rattle.pt_canon.specs.pr_base.declared.peeks.PeekKind.TheVariants as peek
 use Rattle.law_lawful.specs.kr_tree.Lawful.{IsSound}
-use Rattle.law_lawful.specs.kr_view.declared.target.Reach.{Reach}
-use Rattle.law_lawful.specs.kr_view.Component.{Surroundings}
-use Rattle.law_lawful.specs.kr_view.Reach.{reach_after}
-use Rattle.law_lawful.specs.kr_view.View.{plain, root_place}
-use Rattle.law_lawful.specs.kr_view.Walk.{PlaceTrail, place_walk}
-use Rattle.law_lawful.specs.kr_model.HostView.{host_around_of}
 use Rattle.law_lawful.specs.kr_model.Judged.{HasShape, IsReachedStill}
-use Rattle.law_lawful.specs.kr_model.Peeks.{peeked_of}
+use Rattle.law_lawful.specs.kr_model.Peeks.{host_walk, is_steady_in, is_steady_path, peeked_of}
 use Rattle.law_lawful.specs.kr_model.State.{State}
-
--- nothing reached yet
-abbrev pub nothing : Reach
-nothing = record { longest = 0; met_proc = false }
-
--- whether a walk in a mode looked up no name in the process directory
-abbrev pub is_steady : Surroundings → WalkMode → PlaceTrail → Bool
-is_steady around mode trail = not (reach_after around mode trail nothing).met_proc
-
-module _ {M X : Type 0} (s : State M X) (caller : ℕ) where
-  -- the plain walk in a caller's name
-  abbrev pub host_walk : WalkMode → List ℕ → PlaceTrail
-  host_walk mode path = place_walk (host_around_of s caller) mode (root_place plain) path
-
-  -- a host path is steady where its walk in a mode is
-  abbrev pub is_steady_in : WalkMode → List ℕ → Bool
-  is_steady_in mode path = is_steady (host_around_of s caller) mode (host_walk mode path)
-
-  -- as a tracer looks at it
-  abbrev pub is_steady_path : List ℕ → Bool
-  is_steady_path path = is_steady_in LookLink path
 
 -- two states of one shape and one user, of which the first is sound. Nothing is said of processes, of what is open, nor of bytes
 -- of files

@@ -6,7 +6,7 @@ ghost use Rattle.law_steady.specs.Exact.{LessIsTold, NamesAreTexts, ShapeIsTold}
 ghost use Rattle.law_steady.specs.Fronts.{FrontsAreSteady};
 ghost use Rattle.law_steady.specs.NamesLast.{HostNamesLast};
 ghost use Rattle.law_steady.specs.Steady.{SteadyPeeksLast, SteadyWalksLast};
-ghost use Rattle.law_steady.specs.TextSteady.{SteadyKeysLast, TextWalksAgree};
+ghost use Rattle.law_steady.specs.TextSteady.{SteadyKeysLast};
 ghost use Rattle.law_steady.specs.Told.{CallsAreTold, ProgramsAreTold};
 
 /// A steady host walk is the same in every state with that shape and that user, whoever asks.
@@ -17,11 +17,6 @@ pub fn steady_walks_last<M, N, X, Y>()
 /// So is what a tracer is told of a steady host path.
 pub fn steady_peeks_last<M, N, X, Y>()
     ensures { SteadyPeeksLast M N X Y }
-{}
-
-/// Text walks are one where each host path at which the one looks is told alike, whatever the tags.
-pub fn text_walks_agree()
-    ensures { TextWalksAgree }
 {}
 
 /// A steady key has the same answer in every state with that shape and that user, whoever asks and whatever the tags.

@@ -9,10 +9,9 @@
 //! (`steady_walks_last`); so is what a tracer is told of the host path: its kind, which is no link of the process directory, the text of a link,
 //! and the first bytes where the bytes of files stay too (`steady_peeks_last`).
 //!
-//! Text walks over two answerers are one where both tell the same of each host path at which the one looks (`text_walks_agree`). So a key, which
-//! is a base, a path and a mode, whose text walk looks at steady host paths alone has the same walk and the same answer of a tracer's walker in
-//! every such state, whatever the tags, and stays such a key (`steady_keys_last`). In front of a steady host path all is steady: the directory
-//! above it, and that directory looked up in itself (`fronts_are_steady`).
+//! So a key, which is a base, a path and a mode, whose text walk looks at steady host paths alone has the same walk and the same answer of a
+//! tracer's walker in every such state, whatever the tags, and stays such a key (`steady_keys_last`; `text_walks_agree` of pt_canon). In front of a
+//! steady host path all is steady: the directory above it, and that directory looked up in itself (`fronts_are_steady`).
 //!
 //! A directory has the same host name in trees of one shape, and so has what a slot holds as long as it is a directory in both or in neither
 //! (`host_names_last`).

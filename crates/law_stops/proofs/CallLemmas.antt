@@ -5,6 +5,7 @@ use Rattle.std.specs.Prelude.{get_or, nat_eq}
 use Rattle.std.specs.Int.{cast_signed, cast_unsigned, w64}
 use Rattle.std.proofs.lemmas.Bool.Decides.{nat_tests}
 use Rattle.std.specs.Option.{option_map, option_map_or}
+use Rattle.std.proofs.lemmas.Option.{same_Some}
 use Rattle.law_turns.proofs.pr_base.MapLemmas.{get-insert_same, get-remove_same}
 use Rattle.law_turns.specs.pr_base.declared.errno.Errno.{Errno}
 use Rattle.pt_args.specs.rv_mem.Actions.{AreEqualUnmarked, carried_out}
@@ -77,9 +78,6 @@ use Rattle.law_stops.proofs.CallerLemmas.{Callers, callers_of}
 use Rattle.law_stops.proofs.NoteLemmas.{notes_follow}
 use Rattle.law_stops.proofs.PassLemmas.{begins_none, entries_pass, exits_pass}
 use Rattle.law_stops.proofs.RegisterLemmas.{put_beside, put_there}
-
-some_same : {A : Type 0} {a b : A} → Some a ≡ Some b → a ≡ b
-some_same e = cc
 
 -- the host's own view names no source but its root
 pub plain_named : SourcesAreNamed plain
@@ -252,7 +250,7 @@ module _ {S : Type 0} {scene : Scene S} (callers : Callers scene) where
   pages_left = decoding-leaves-pages q.image.regs q.image.memory can_too.holds
 
   pub same_regs : p1.image.regs ≡ q.image.regs
-  same_regs = some_same (sym (ap (option_map (λ p. p.image.regs)) lives1) ∙ match1.images.registers pid ∙ ap (option_map (λ p. p.image.regs)) also)
+  same_regs = same_Some _ _ (sym (ap (option_map (λ p. p.image.regs)) lives1) ∙ match1.images.registers pid ∙ ap (option_map (λ p. p.image.regs)) also)
 
   stays_itself : StaysLike p1.image.memory.pages p1.image.memory.pages
   stays_itself = let own = match1.placed.lawful.processes pid p1 lives1 in record { whole = own.whole; placed = own.paged; layout = refl }
@@ -482,7 +480,7 @@ module _ {S : Type 0} {scene : Scene S} (callers : Callers scene) where
             never : {A : Type 0} {a : A} → None ≡ Some a → ⊥
             never e = cc
         answered_left value e (Some q3) lives3 =
-            left_answered value q3 lives3 (some_same (sym (ap (option_map (λ p. p.image.regs)) lives3) ∙ registers_then value e)) lasts3 (child_of at.next_pid r (Answer value)) tally
+            left_answered value q3 lives3 (same_Some _ _ (sym (ap (option_map (λ p. p.image.regs)) lives3) ∙ registers_then value e)) lasts3 (child_of at.next_pid r (Answer value)) tally
 
         still : IsLeft table came2.state x.tags (leftover end.Waits None tally)
         still = record { states = refl; tags_are = refl; traces = record { bindings = c.traces.bindings; identities = c.traces.identities } }

@@ -5,6 +5,7 @@ use Rattle.std.specs.Prelude.{◌&&◌, IsSome, slice_set}
 use Rattle.std.specs.Int.{cast_unsigned, w64}
 use Rattle.std.specs.List.{list_all}
 use Rattle.std.specs.Option.{option_map, option_map_or}
+use Rattle.std.proofs.lemmas.Bool.{and_parts, or_parts}
 use Rattle.law_turns.specs.pr_base.declared.errno.Errno.{Errno}
 use Rattle.pt_args.specs.rv_mem.Actions.{AreEqualUnmarked, CarriedOut, carried_out}
 use Rattle.pt_args.specs.rv_mem.Memory.{Memory}
@@ -26,7 +27,6 @@ use Rattle.law_turns.proofs.law_allowed.RowLemmas.{StaysLike, lawful-image, stay
 use Rattle.law_turns.proofs.law_allowed.TargetLemmas.{walked-calls-leave-lawful}
 use Rattle.law_turns.specs.kr_seen.Carrying.{memory_of, with_memory_of}
 use Rattle.law_turns.specs.kr_calm.Laws.{BreakNone, leaves_mark}
-use Rattle.law_turns.proofs.kr_calm.ChangeLemmas.{both}
 use Rattle.law_turns.proofs.law_allowed.RoomLemmas.{lasting-room}
 use Rattle.law_turns.specs.law_lawful.Laws.{CanAllBeMade}
 use Rattle.law_edits.specs.kr_model.Lawful.{IsLawful}
@@ -71,7 +71,6 @@ use Rattle.law_turns.proofs.law_kept.ImageCallLemmas.{path_calls_answer, path_ca
 use Rattle.law_turns.proofs.law_kept.GivenLemmas.{registers_given_back}
 use Rattle.law_turns.specs.law_places.Changes.{NewPlacesStand}
 use Rattle.law_turns.specs.law_places.Matching.{IsMatch}
-use Rattle.law_turns.proofs.law_places.InUseLemmas.{neither}
 use Rattle.law_turns.specs.law_places.Keeping.{MovesStayInside}
 use Rattle.law_edits.specs.Exits.{left_with}
 use Rattle.law_edits.specs.law_walks.BareFacts.{AreSeenAlike}
@@ -98,9 +97,6 @@ use Rattle.law_stops.proofs.CallLemmas as before
 use Rattle.law_stops.proofs.EnterLemmas as enter
 use Rattle.law_stops.proofs.CallLemmas.{exit_status, own_image, plain_named, unwatched_exit}
 use Rattle.law_stops.proofs.CallerLemmas.{Callers}
-
-some_same : {A : Type 0} {a b : A} → Some a ≡ Some b → a ≡ b
-some_same e = cc
 
 -- ---- requests
 
@@ -130,7 +126,7 @@ marks_left _ cs leaves on = (refl, on)
 all_marks_left : (cs : List Change) → leave_images cs ≡ true → ends_nobody cs ≡ true → list_all leaves_mark cs ≡ true
 all_marks_left [] leave on = refl
 all_marks_left (c ∷ cs) leave on =
-    let parts = both (leaves_images c) (leave_images cs) leave in
+    let parts = and_parts (leaves_images c) (leave_images cs) leave in
     let one = marks_left c cs parts.0 on in
     ap (λ b. b && list_all leaves_mark cs) one.0 ∙ all_marks_left cs parts.1 one.1
 
@@ -407,7 +403,7 @@ module _ {S : Type 0} {scene : Scene S} (callers : Callers scene) (r r2 : Reques
           kind = no_exec_told r2 told2;
           lives = subst IsSome (sym (decoded_lives table made pid s1 p1 mine)) refl;
           same = served.1.same;
-          unread = subst (λ (d : CarriedOut Reply). d.memory.read_marked ≡ false) done_same (neither done.memory.read_marked (before.lacks callers) rules.0).0;
+          unread = subst (λ (d : CarriedOut Reply). d.memory.read_marked ≡ false) done_same (or_parts done.memory.read_marked (before.lacks callers) rules.0).0;
           inside = subst (λ (d : CarriedOut Reply). MovesStayInside table named pid (with_memory_of pid d.memory at) d.reply.changes) done_same served.1.inside;
           calm = subst (λ (d : CarriedOut Reply). BreakNone images named pid table d.reply.changes (with_memory_of pid d.memory at)) done_same served.1.rules;
           new = subst (λ (d : CarriedOut Reply). NewPlacesStand table named pid (with_memory_of pid d.memory at) d.reply.changes) done_same served.1.new;

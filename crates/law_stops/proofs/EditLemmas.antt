@@ -2,6 +2,7 @@
 use Rattle.std.proofs.Common.{◌≡◌, ℕ, Bool, true, false, cond, List, Option, Some, None, refl, sym, ap, subst, ◌∙◌}
 use Rattle.std.specs.Prelude.{◌&&◌, ◌==◌, IsSome, get_or, slice_set}
 use Rattle.std.specs.Option.{option_map, option_map_or}
+use Rattle.std.proofs.lemmas.Option.{same_Some}
 use Rattle.pt_args.specs.rv_mem.Actions.{Action, AreEqualUnmarked, carried_out}
 use Rattle.pt_args.specs.rv_mem.Memory.{Memory}
 use Rattle.pt_args.specs.rv_mem.declared.regs.Regs.{Regs}
@@ -30,12 +31,9 @@ use Rattle.law_stops.proofs.CallLemmas.{own_image}
 use Rattle.law_stops.specs.Editing.{BeginningsKeepMatches, EditsKeepMatches, IsEditedAlike, ReadsNoMarkAtBeginning, stop_in}
 use Rattle.law_stops.specs.Going.{StandAlike}
 
-some_same : {A : Type 0} {a b : A} → Some a ≡ Some b → a ≡ b
-some_same e = cc
-
 module _ (table : List Row) (tags : TagTable) (made pid : ℕ) (s w : State ℕ Image) (p q : Process ℕ Image) (lives : process pid s ≡ Some p) (also : process pid w ≡ Some q) (alike : StandAlike table tags made s w) where
   same_regs : p.image.regs ≡ q.image.regs
-  same_regs = some_same (sym (ap (option_map (λ p. p.image.regs)) lives) ∙ alike.matches.images.registers pid ∙ ap (option_map (λ p. p.image.regs)) also)
+  same_regs = same_Some _ _ (sym (ap (option_map (λ p. p.image.regs)) lives) ∙ alike.matches.images.registers pid ∙ ap (option_map (λ p. p.image.regs)) also)
 
   memories : AreEqualUnmarked p.image.memory.pages q.image.memory.pages
   memories = alike.matches.images.memories pid p q lives also

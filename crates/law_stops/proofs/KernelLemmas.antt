@@ -3,6 +3,7 @@ use Rattle.std.specs.FinMap as map
 use Rattle.std.proofs.Common.{◌≡◌, ℕ, suc, Bool, true, false, cond, List, Option, Some, None, Ok, refl, sym, ap, subst, ◌∙◌, ℤ}
 use Rattle.std.specs.Prelude.{◌&&◌, ◌==◌, IsSome, is_none}
 use Rattle.std.specs.Ordering.{nat_cmp}
+use Rattle.std.proofs.lemmas.Option.{same_Some}
 use Rattle.law_turns.proofs.pr_base.MapLemmas.{get-insert_same, get-remove_same}
 use Rattle.pt_args.specs.rv_mem.Actions.{carried_out}
 use Rattle.law_edits.specs.pt_ident.Identity.{Identity, after_exec, effect}
@@ -69,9 +70,6 @@ program_reads : (table : List Row) (pid : ℕ) (s : State ℕ Image) (p : Proces
     → has_answered_zero (called pid (plain_call table pid s)) ≡ true → ReadsNoMark (called pid (plain_call table pid s))
 program_reads table pid s p (call.Execve path args env) lives sized reads runs zero = programs_read_no_mark table pid s p path args env lives sized reads zero
 program_reads table pid s p _ lives sized reads runs zero = absurd cc
-
-some_same : {A : Type 0} {a b : A} → Some a ≡ Some b → a ≡ b
-some_same e = cc
 
 -- what is due is found again
 pub due_kept : (pid : ℕ) (d : Option Due) (dues : map.FinMap nat_cmp Due) → map.get (dues_with pid d dues) pid ≡ d
@@ -466,7 +464,7 @@ module _ {scene : Scene Faking} (callers : FakedCallers scene) (r : Request) (de
   module _ (runs : is_execve r ≡ true) (goes : GoesUntoldToProgram scene) where
     pending_is : goes.pending ≡ pending
     pending_is =
-        some_same
+        same_Some _ _
         (sym goes.kept
         ∙ ap (λ (t : Stopped). map.get (entered (untold scene).traced.watcher t).0.pending pid) stop_is
         ∙ ap (λ (e : Tracing × Stopped). map.get e.0.pending pid) enters_untold

@@ -7,6 +7,7 @@ use Rattle.std.specs.List.{list_all}
 use Rattle.std.specs.Option.{option_and_then, option_map, option_map_or}
 use Rattle.std.proofs.lemmas.Bool.Decides.{nat_tests}
 use Rattle.std.proofs.lemmas.Int.{to_z-of_z}
+use Rattle.std.proofs.lemmas.Bool.{and_parts}
 use Rattle.law_turns.specs.pr_base.declared.errno.Errno.TheVariants.{EACCES, EAGAIN, EBADF, EINVAL, EMFILE, ENOMEM, ENOTDIR}
 use Rattle.pt_args.specs.rv_mem.Actions.{MayUse, allows_uses, carried_out}
 use Rattle.pt_args.specs.rv_mem.Memory.{Memory}
@@ -42,7 +43,6 @@ use Rattle.law_edits.specs.kr_model.State.{Image, State, image_layout, opened}
 use Rattle.law_edits.specs.kr_model.declared.outcome.Outcome.{Outcome}
 use Rattle.law_edits.specs.kr_model.declared.outcome.Outcome.TheVariants.{Answer, Wait, Ended, NoMemory}
 use Rattle.law_edits.proofs.kr_model.LineLemmas.{answer_passes, by_answer, ends_as_told}
-use Rattle.law_turns.proofs.kr_calm.ChangeLemmas.{both}
 use Rattle.law_turns.specs.kr_turns.PlainCall.{child_of}
 use Rattle.law_turns.specs.law_places.Matching.{AreTagged, index_at}
 use Rattle.law_turns.specs.Changing.{all_tags_made}
@@ -144,7 +144,7 @@ module _ (table : List Row) (mounts : Mounts ℕ) (nothing_found : mounts.found 
   all_kept : (cs : List Change) (s : State ℕ Image) → list_all keeps_tags cs ≡ true → all_tags_made table mounts pid s cs tags ≡ tags
   all_kept [] s keeps = refl
   all_kept (c ∷ cs) s keeps =
-      let parts = both (keeps_tags c) (list_all keeps_tags cs) keeps in
+      let parts = and_parts (keeps_tags c) (list_all keeps_tags cs) keeps in
       ap (all_tags_made table mounts pid (applied images mounts pid c s) cs) (one_kept c s parts.0) ∙ all_kept cs (applied images mounts pid c s) parts.1
 
   module _ (t : State ℕ Image) (memory : Memory) where

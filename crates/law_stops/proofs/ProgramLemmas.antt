@@ -2,6 +2,7 @@
 use Rattle.std.proofs.Common.{◌≡◌, ℕ, true, false, List, [], ◌∷◌, Option, Some, None, Ok, Err, get_or, refl, sym, ap, subst, ◌∙◌, arith}
 use Rattle.std.specs.Prelude.{◌==◌, Bool, Result, cond}
 use Rattle.std.specs.Option.{option_map}
+use Rattle.std.proofs.lemmas.Option.{same_Some}
 use Rattle.law_turns.specs.pr_base.declared.errno.Errno.{Errno}
 use Rattle.pt_args.specs.rv_mem.Actions.{CarriedOut, carried_out}
 use Rattle.pt_args.specs.rv_mem.Memory.{Memory}
@@ -36,9 +37,6 @@ use Rattle.law_stops.proofs.CallLemmas.{own_image}
 use Rattle.law_stops.proofs.RegisterLemmas.{put_there}
 use Rattle.law_stops.specs.Beginning.{ProgramsReadNoMark, ReadsNoMark}
 use Rattle.law_stops.proofs.ReadLemmas.{differ, nonzero}
-
-some_same : {A : Type 0} {a b : A} → Some a ≡ Some b → a ≡ b
-some_same e = cc
 
 -- a new program that is given its own registers and memory once more
 given_twice : (pid : ℕ) (image : Image) (brk : ℕ) (ps : List (Process ℕ Image)) → with_process pid (given pid image.regs image.memory) (with_process pid (with_program image brk) ps) ≡ with_process pid (with_program image brk) ps
@@ -86,7 +84,7 @@ module _ (pid : ℕ) (mounts : Mounts ℕ) (program : Program) (s : State ℕ Im
       never e = cc
   left_memory (Some q) at =
       ap (λ (image : Image). image.memory) (own_image pid (resumed pid left) (going (λ regs. regs) false q) (lives_changed pid (going (λ regs. regs) false) (λ p. refl) left q at))
-      ∙ ap (λ (q : Process ℕ Image). q.image.memory) (some_same (sym at ∙ ap (process pid) left_is ∙ lives_computed pid regs memory left q at))
+      ∙ ap (λ (q : Process ℕ Image). q.image.memory) (same_Some _ _ (sym at ∙ ap (process pid) left_is ∙ lives_computed pid regs memory left q at))
 
 -- ---- the whole call
 

@@ -4,6 +4,7 @@ use Rattle.std.specs.Prelude.{◌%◌, ◌==◌, ◌||◌, pos, replicate}
 use Rattle.std.specs.Option.{option_map_or}
 use Rattle.std.proofs.Math.Seq.{length-sets, sets}
 use Rattle.std.proofs.lemmas.List.{length-replicate}
+use Rattle.std.proofs.lemmas.Bool.{or_parts}
 use Rattle.law_turns.specs.pr_base.declared.errno.Errno.{Errno}
 use Rattle.law_turns.specs.pr_base.declared.errno.Errno.TheVariants.{EBADF, EFAULT, ENOENT, ENOSYS}
 use Rattle.pt_args.specs.rv_mem.Actions.{CarriedOut, WriteBytes, allows_uses, carried_out}
@@ -48,7 +49,6 @@ use Rattle.law_edits.specs.pt_ident.pt_owner.Owners.{modes}
 use Rattle.law_edits.specs.pt_ident.pt_owner.declared.change.Change.{Change}
 use Rattle.law_edits.specs.pt_ident.pt_owner.declared.change.Change.TheVariants.{Mode, Own}
 use Rattle.law_edits.specs.pt_faker.declared.due.Due.TheVariants.{ForgivesRoot, Remembers}
-use Rattle.law_turns.proofs.law_places.InUseLemmas.{neither}
 use Rattle.law_turns.specs.Calls.{decoded_by, decoded_in}
 use Rattle.law_turns.specs.Lasting.{CanBeCalled}
 use Rattle.law_turns.specs.Operating.{done_in}
@@ -185,7 +185,7 @@ module _ (table : List Row) (made pid : ℕ) (no_shelf at_root : Bool) (target :
         ∙ calm
 
     unread : left.memory.read_marked ≡ false
-    unread = (neither left.memory.read_marked no_shelf (first_unbroken (left.memory.read_marked || no_shelf) _ calm_row)).0
+    unread = (or_parts left.memory.read_marked no_shelf (first_unbroken (left.memory.read_marked || no_shelf) _ calm_row)).0
 
     module _ (place : ℕ) (tells_stat : TellsStat place (operation pid r told (known image_layout pid at))) where
       is : IsTold place left

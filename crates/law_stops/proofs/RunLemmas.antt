@@ -2,6 +2,7 @@
 use Rattle.std.proofs.Common.{◌≡◌, ◌≢◌, ◌<◌, ◌^◌, ℕ, suc, Bool, true, false, cond, List, Option, Some, None, Ok, Err, refl, sym, ap, subst, ◌∙◌}
 use Rattle.std.specs.Prelude.{IsSome}
 use Rattle.std.specs.Option.{option_map}
+use Rattle.std.proofs.lemmas.Option.{same_Some}
 use Rattle.law_turns.specs.rv_cpu.Run.{Ran, ran}
 use Rattle.law_turns.specs.rv_cpu.declared.event.Event.{Event}
 use Rattle.law_turns.specs.rv_cpu.declared.event.Event.TheVariants.{Call, Killed, Next}
@@ -56,9 +57,6 @@ use Rattle.law_stops.specs.Going.{ComeToFakedCall, GoBySame}
 use Rattle.law_stops.specs.Runs.{CanRunFaked, EachCallGoesTogether, FakedRunsComeAlike, FakedTurnsGoTogether, Kept, faked_by, traced_by}
 use Rattle.law_stops.specs.Scene.{Scene}
 use Rattle.law_stops.proofs.GoingLemmas.{goes_gone}
-
-some_same : {A : Type 0} {a b : A} → Some a ≡ Some b → a ≡ b
-some_same e = cc
 
 -- ---- what the first stop reads
 
@@ -310,7 +308,7 @@ module _ (safe : Faking → Bool) (sound : Tracing → Bool) (table : List Row) 
             (subst (λ o. GoBySame table (by_pick faker 1 table fuel o m).watcher (turn tracer 0 plain pick fuel n).watcher) (sym is) (subst (λ o. GoBySame table m.watcher (by_pick tracer 0 plain fuel o n).watcher) (sym also) go))
         by None is (Some q) also same = never (sym (ap (option_map (λ p. p.pid)) is) ∙ same ∙ ap (option_map (λ p. p.pid)) also)
         by (Some p) is None also same = never (sym (ap (option_map (λ p. p.pid)) also) ∙ sym same ∙ ap (option_map (λ p. p.pid)) is)
-        by (Some p) is (Some q) also same = by_event p q is also (some_same (sym (ap (option_map (λ p. p.pid)) is) ∙ same ∙ ap (option_map (λ p. p.pid)) also)) (ran fuel p.image.regs p.image.memory).event refl
+        by (Some p) is (Some q) also same = by_event p q is also (same_Some _ _ (sym (ap (option_map (λ p. p.pid)) is) ∙ same ∙ ap (option_map (λ p. p.pid)) also)) (ran fuel p.image.regs p.image.memory).event refl
 
     turn_keeps : KeepOn (faked_by safe table) (traced_by sound) (turn faker 1 table pick fuel m) (turn tracer 0 plain pick fuel n)
     turn_keeps =

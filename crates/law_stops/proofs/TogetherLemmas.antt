@@ -3,6 +3,7 @@ use Rattle.std.specs.FinMap as map
 use Rattle.std.proofs.Common.{◌≡◌, ◌<◌, ◌^◌, ℕ, suc, Bool, true, false, cond, List, Option, Some, None, Ok, Err, refl, sym, ap, subst, ◌∙◌}
 use Rattle.std.specs.Prelude.{IsSome}
 use Rattle.std.specs.Option.{option_map}
+use Rattle.std.proofs.lemmas.Option.{same_Some}
 use Rattle.law_turns.specs.pr_base.MountText.{MountText}
 use Rattle.law_turns.specs.rv_cpu.Run.{Ran, ran}
 use Rattle.law_turns.specs.rv_cpu.declared.event.Event.{Event}
@@ -55,9 +56,6 @@ use Rattle.law_stops.specs.Scene.{Scene}
 use Rattle.law_stops.specs.Together.{CallsGoTogether, CanRun, TracedRunsComeAlike, TracedTurnsGoTogether, any_call, goes_by, gone_by}
 use Rattle.law_stops.specs.Turning.{ComeToCall, Traces, tags_kept}
 use Rattle.law_stops.proofs.CallLemmas.{own_image}
-
-some_same : {A : Type 0} {a b : A} → Some a ≡ Some b → a ≡ b
-some_same e = cc
 
 -- ---- the tracer's own stops keep what it goes by
 
@@ -221,7 +219,7 @@ module _ {S : Type 0} (sound : Tracing → Bool) (table : List Row) (calls : Cal
         by (Some p) is (Some q) also same = by_event (ran fuel p.image.regs p.image.memory).event refl
           where
             by_event : (e : Event) → (ran fuel p.image.regs p.image.memory).event ≡ e → GoTogether tags_kept table (suc made) (turn unwatched 1 table pick fuel m) (turn tracer 0 plain pick fuel n)
-            by_event Call event = by_call p q is also (some_same (sym (ap (option_map (λ p. p.pid)) is) ∙ same ∙ ap (option_map (λ p. p.pid)) also)) event
+            by_event Call event = by_call p q is also (same_Some _ _ (sym (ap (option_map (λ p. p.pid)) is) ∙ same ∙ ap (option_map (λ p. p.pid)) also)) event
             by_event Next event = quietly (subst (MakesNoCall fuel) (sym is) (λ call. absurd (differ (sym event ∙ call))))
               where
                 differ : Next ≡ Call → ⊥

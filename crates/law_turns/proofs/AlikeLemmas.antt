@@ -4,6 +4,7 @@ use Rattle.std.specs.Prelude.{◌==◌, ◌||◌, map as map_list, nat_eq}
 use Rattle.std.specs.List.{find, list_any}
 use Rattle.std.specs.Option.{option_map, option_map_or}
 use Rattle.std.proofs.lemmas.Bool.{eqb-true}
+use Rattle.std.proofs.lemmas.Option.{same_Some}
 use Rattle.pt_results.specs.rv_mem.Actions.{AreEqualUnmarked}
 use Rattle.pt_results.specs.rv_mem.declared.regs.Regs.{Regs}
 use Rattle.kr_core.specs.kr_tree.Tree.{Tree, Inode, root}
@@ -66,10 +67,7 @@ alike_lists low next (x ∷ xs) (y ∷ ys) rise bares found =
     first_found pid = (ap (λ b. cond b (Some x) (find (is_pid x.pid) xs)) (eq-eqb x.pid x.pid refl), ap (λ b. cond b (Some y) (find (is_pid x.pid) ys)) (eq-eqb y.pid x.pid (sym pid)))
 
     here : x.pid ≡ y.pid → x.image.regs ≡ y.image.regs
-    here pid = some_same (sym (ap (option_map (λ p. p.image.regs)) (first_found pid).0) ∙ found.registers x.pid rise.0 ∙ ap (option_map (λ p. p.image.regs)) (first_found pid).1)
-      where
-        some_same : {A : Type 0} {a b : A} → Some a ≡ Some b → a ≡ b
-        some_same e = cc
+    here pid = same_Some _ _ (sym (ap (option_map (λ p. p.image.regs)) (first_found pid).0) ∙ found.registers x.pid rise.0 ∙ ap (option_map (λ p. p.image.regs)) (first_found pid).1)
 
     past : (k : ℕ) → suc x.pid ≤ k → find (is_pid k) (x ∷ xs) ≡ find (is_pid k) xs
     past k above = ap (λ b. cond b (Some x) (find (is_pid k) xs)) (other-test x.pid k (λ e. absurd (omega (arith, e, above))))
@@ -100,11 +98,8 @@ found_both k [] (y ∷ ys) alike = absurd alike
 found_both k (x ∷ xs) [] alike = absurd alike
 found_both k (x ∷ xs) (y ∷ ys) alike = by (x.pid == k) (y.pid == k) (ap (λ n. n == k) alike.0.pids) (found_both k xs ys alike.1)
   where
-    some_is : {A : Type 0} {a b : A} → Some a ≡ Some b → a ≡ b
-    some_is e = cc
-
     by : (b c : Bool) → b ≡ c → Both (find (is_pid k) xs) (find (is_pid k) ys) → Both (cond b (Some x) (find (is_pid k) xs)) (cond c (Some y) (find (is_pid k) ys))
-    by true true e rest = (ap Some alike.0.regs, λ p q at_p at_q. subst (λ (z : Process ℕ Image). AreEqualUnmarked z.image.memory.pages q.image.memory.pages) (some_is at_p) (subst (λ (z : Process ℕ Image). AreEqualUnmarked x.image.memory.pages z.image.memory.pages) (some_is at_q) alike.0.memory))
+    by true true e rest = (ap Some alike.0.regs, λ p q at_p at_q. subst (λ (z : Process ℕ Image). AreEqualUnmarked z.image.memory.pages q.image.memory.pages) (same_Some _ _ at_p) (subst (λ (z : Process ℕ Image). AreEqualUnmarked x.image.memory.pages z.image.memory.pages) (same_Some _ _ at_q) alike.0.memory))
     by false false e rest = rest
     by true false e rest = absurd (differ e)
       where

@@ -1,6 +1,7 @@
 -- Runs of machines that match, turn by turn.
 use Rattle.std.proofs.Common.{◌≡◌, ◌+◌, ◌≤◌, ◌^◌, ℕ, zero, suc, List, ◌∷◌, Option, Some, None, refl, sym, ap, subst, ◌∙◌, arith}
 use Rattle.std.specs.Option.{option_map_or}
+use Rattle.std.proofs.lemmas.Option.{same_Some}
 use Rattle.pt_results.specs.pt_bind.Tags.{TagTable}
 use Rattle.kr_core.specs.rv_cpu.Run.{ran}
 use Rattle.kr_core.specs.rv_cpu.declared.event.Event.{Event}
@@ -130,10 +131,7 @@ module _ {S T V : Type 0} (watcher : Watcher S) (tracer : Watcher T) (tags_in : 
           let after = turns.together made m n (omega (arith, few)) both keeps is turn_calm in
           let rest = later (go_cleared tags_in table (suc made) one other after) (keep_cleared one other (turns.keeps made m n (omega (arith, few)) both keeps is turn_calm)) calm in
           record { puts = λ i. same_put tags_in table one other after.matches i ∷ rest.puts i; endings = rest.endings; statuses = rest.statuses; trees = rest.trees }
-      by (Some e) is (Some x) also later calm = subst (λ y. ComeAlike (ended m e) (ended n y)) (some_same (sym is ∙ also)) (end_alike tags_in table m n both.matches e)
-        where
-          some_same : {A : Type 0} {a b : A} → Some a ≡ Some b → a ≡ b
-          some_same e = cc
+      by (Some e) is (Some x) also later calm = subst (λ y. ComeAlike (ended m e) (ended n y)) (same_Some _ _ (sym is ∙ also)) (end_alike tags_in table m n both.matches e)
       by None is (Some x) also later calm = absurd (never (sym is ∙ also))
         where
           never : {A : Type 0} {a : A} → None ≡ Some a → ⊥

@@ -2,6 +2,7 @@
 use Rattle.std.proofs.Common.{◌≡◌, ℕ, Bool, true, false, List, [], ◌∷◌, Option, Some, None, refl, sym, ap, subst, ◌∙◌}
 use Rattle.std.specs.Prelude.{not, ℤ}
 use Rattle.std.specs.Option.{option_and_then, option_map, option_map_or}
+use Rattle.std.proofs.lemmas.Option.{same_Some}
 use Rattle.kr_core.specs.pr_base.declared.errno.Errno.TheVariants.{EACCES, ENOTDIR}
 use Rattle.pt_results.specs.rv_mem.Actions.{carried_out}
 use Rattle.pt_results.specs.rv_mem.Memory.{Memory}
@@ -31,9 +32,6 @@ use Rattle.law_places.specs.Standing.{PlacesStand, UseStands}
 use Rattle.law_places.specs.Uses.{is_open, open_use}
 use Rattle.law_places.specs.Keeping.{move_nothing}
 
-some_same : {A : Type 0} {a b : A} → Some a ≡ Some b → a ≡ b
-some_same e = cc
-
 passed : (b : Bool) → not b ≡ false → b ≡ true
 passed true e = refl
 passed false e = absurd cc
@@ -52,7 +50,7 @@ module _ (table : List Row) (mounts : Mounts ℕ) (pid : ℕ) (t : State ℕ Ima
         let lawful = stand.lawful.files x.0.number o x.2 in
         let kind : is_dir o.what ≡ true = sym (lawful.placed p placed).1 ∙ directory in
         let plainly = lawful.directories kind in
-        let mount : p.mount ≡ m = some_same (sym (ap (λ q. option_map (λ (p : Place ℕ). p.mount) (option_and_then (λ (o : Opened ℕ). o.place) q)) there ∙ ap (option_map (λ (p : Place ℕ). p.mount)) placed) ∙ is) in
+        let mount : p.mount ≡ m = same_Some _ _ (sym (ap (λ q. option_map (λ (p : Place ℕ). p.mount) (option_and_then (λ (o : Opened ℕ). o.place) q)) there ∙ ap (option_map (λ (p : Place ℕ). p.mount)) placed) ∙ is) in
         let same : open_use o p ≡ record { place = record { mount = m; host = p.host }; is_directory = true; dir = 0; name = [] } =
         λ i. record { place = record { mount = mount i; host = p.host }; is_directory = kind i; dir = plainly.1 i; name = plainly.2 i } in
         subst (UseStands (space_of table t)) same (stand.uses (open_use o p) (is_open x.0.number o p x.2 placed))

@@ -1,6 +1,7 @@
 -- The changes of a call keep a match, one after the other.
 use Rattle.std.proofs.Common.{◌≡◌, ℕ, true, false, List, [], ◌∷◌, Option, Some, None, sym, ap, ◌∙◌}
 use Rattle.std.specs.Prelude.{◌||◌, IfSome, IsSome}
+use Rattle.std.proofs.lemmas.Bool.{or_parts}
 use Rattle.pt_results.specs.rv_mem.Pages.{IsWhole}
 use Rattle.pt_results.specs.pt_bind.Tags.{TagTable}
 use Rattle.law_places.specs.kr_view.View.{Row, plain}
@@ -19,7 +20,6 @@ use Rattle.law_places.specs.Matching.{IsMatch}
 use Rattle.law_places.specs.Standing.{PlacesStand}
 use Rattle.law_places.specs.Tagging.{tags_made}
 use Rattle.law_places.proofs.SlotLemmas.{tags_follow}
-use Rattle.law_places.proofs.InUseLemmas.{neither}
 use Rattle.law_places.proofs.KeepLemmas.{calm_moves_keep_places, stay_inside}
 use Rattle.law_turns.specs.Changing.{ChangesKeepMatches, MovesKeepMatches}
 use Rattle.law_turns.proofs.AlikeLemmas.{AreSame, alike_all, images_alike, pinned_root, pinned_sources, same_inherited}
@@ -90,9 +90,9 @@ pub moves_keep_matches : MovesKeepMatches
 moves_keep_matches table mounts others pid [] s w tags same inside calm new can also lawful m = m
 moves_keep_matches table mounts others pid (c ∷ cs) s w tags same inside calm new can also lawful m =
     let next = applied images mounts pid c s in
-    let third = neither (breaks_3 table s.tree c) (changes_break_3 images mounts pid table cs next) calm.third in
-    let fourth = neither (breaks_4 pid s c next) (changes_break_4 images mounts pid cs next) calm.fourth in
-    let fifth = neither (breaks_5 table s c next) (changes_break_5 images mounts pid table cs next) calm.fifth in
+    let third = or_parts (breaks_3 table s.tree c) (changes_break_3 images mounts pid table cs next) calm.third in
+    let fourth = or_parts (breaks_4 pid s c next) (changes_break_4 images mounts pid cs next) calm.fourth in
+    let fifth = or_parts (breaks_5 table s c next) (changes_break_5 images mounts pid table cs next) calm.fifth in
     let placed = calm_moves_keep_places table mounts pid (c ∷ []) s (inside.0, tt) (record { third = ap (λ b. b || false) third.0; fourth = ap (λ b. b || false) fourth.0; fifth = ap (λ b. b || false) fifth.0 }) (can.0, can.1, tt) (new.0, tt) m.placed in
     let other_lawful = every-change-keeps ℕ (λ m. m) plain others pid c w lawful also.0 also.1 in
     moves_keep_matches table mounts others pid cs next (applied images others pid c w) (tags_made table mounts pid s c tags) same inside.1 (record { third = third.1; fourth = fourth.1; fifth = fifth.1 }) new.1 can.2 also.2 other_lawful

@@ -3,6 +3,7 @@ use Rattle.std.proofs.Common.{◌≡◌, ℕ, true, Option, Some, None, refl, sy
 use Rattle.std.specs.Prelude.{false, IsSome, List}
 use Rattle.std.specs.List.{find}
 use Rattle.std.specs.Option.{option_map, option_map_or}
+use Rattle.std.proofs.lemmas.Option.{same_Some}
 use Rattle.pt_results.specs.rv_mem.Actions.{AreEqualUnmarked}
 use Rattle.pt_results.specs.rv_mem.Layout.{layout_of}
 use Rattle.pt_results.specs.rv_mem.Memory.{Memory}
@@ -35,20 +36,17 @@ use Rattle.law_turns.proofs.MatchLemmas.{match_computed, pids_in, same_pids}
 use Rattle.law_turns.proofs.RunLemmas.{lives_too}
 use Rattle.law_turns.proofs.SettleLemmas.{match_settled}
 
-some_same : {A : Type 0} {a b : A} → Some a ≡ Some b → a ≡ b
-some_same e = cc
-
 -- another memory alone is another memory beside the caller's own registers
 pub with_own_registers : (pid : ℕ) (memory : Memory) (next : ℕ) (s : State ℕ Image) (p : Process ℕ Image) → RiseFrom 2 next (pids_in s.living) → process pid s ≡ Some p → with_memory_of pid memory s ≡ computed pid p.image.regs memory s
 with_own_registers pid memory next s p rise lives = ap (λ ps. with_living (λ _. ps) s) (agree pid (with_image (with_memory memory)) (given pid p.image.regs memory) 2 next s.living rise same)
   where
     same : (q : Process ℕ Image) → find (is_pid pid) s.living ≡ Some q → with_image (with_memory memory) q ≡ given pid p.image.regs memory q
-    same q e = ap (λ (x : Process ℕ Image). with_image (λ image. record { regs = x.image.regs; memory = memory }) q) (some_same (sym e ∙ lives))
+    same q e = ap (λ (x : Process ℕ Image). with_image (λ image. record { regs = x.image.regs; memory = memory }) q) (same_Some _ _ (sym e ∙ lives))
 
 module _ (pid : ℕ) (r : Request) (seen : Seen) (table : List Row) (mounts others : Mounts ℕ) (s w : State ℕ Image) (tags : TagTable) (c : IsCalmCall pid r seen table mounts others s w) (m : IsMatch table tags s w)
     (p q : Process ℕ Image) (lives : process pid s ≡ Some p) (also : process pid w ≡ Some q) where
   same_regs : p.image.regs ≡ q.image.regs
-  same_regs = some_same (sym (ap (option_map (λ p. p.image.regs)) lives) ∙ m.images.registers pid ∙ ap (option_map (λ p. p.image.regs)) also)
+  same_regs = same_Some _ _ (sym (ap (option_map (λ p. p.image.regs)) lives) ∙ m.images.registers pid ∙ ap (option_map (λ p. p.image.regs)) also)
 
   mine : memory_of pid s ≡ p.image.memory
   mine = ap (λ o. option_map_or (λ (p : Process ℕ Image). p.image.memory) o no_memory) lives

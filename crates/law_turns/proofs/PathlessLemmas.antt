@@ -3,6 +3,7 @@ use Rattle.std.proofs.Common.{◌≡◌, ◌≢◌, ℕ, Bool, true, false, cond
 use Rattle.std.specs.Prelude.{◌&&◌, ◌||◌, IsSome, ℤ}
 use Rattle.std.specs.List.{list_all}
 use Rattle.std.specs.Option.{option_map_or}
+use Rattle.std.proofs.lemmas.Bool.{and_parts, or_parts}
 use Rattle.kr_core.specs.pr_base.declared.errno.Errno.{Errno}
 use Rattle.pt_results.specs.rv_mem.Actions.{carried_out}
 use Rattle.pt_results.specs.rv_mem.Memory.{Memory}
@@ -30,7 +31,6 @@ use Rattle.kr_core.proofs.law_allowed.RowLemmas.{StaysLike, stays-like}
 use Rattle.kr_core.specs.kr_seen.Carrying.{memory_of}
 use Rattle.law_places.specs.kr_calm.Rules.{changes_break_3, changes_break_4, changes_break_5}
 use Rattle.law_places.specs.kr_calm.Laws.{leaves_mark}
-use Rattle.law_places.proofs.kr_calm.ChangeLemmas.{both}
 use Rattle.law_places.proofs.kr_calm.UnjudgedLemmas.{calls-leave}
 use Rattle.kr_core.specs.kr_steps.Calls.{IsNoExec}
 use Rattle.kr_core.specs.kr_steps.Computing.{computed}
@@ -40,7 +40,6 @@ use Rattle.kr_core.proofs.kr_turns.PlainLemmas.{no-exec-rule}
 use Rattle.law_places.specs.Changes.{NewPlaceStands, NewPlacesStand}
 use Rattle.law_places.specs.Matching.{AreTagged, IsMatch}
 use Rattle.law_places.specs.Standing.{PlacesStand}
-use Rattle.law_places.proofs.InUseLemmas.{neither}
 use Rattle.law_places.specs.Keeping.{move_nothing, moves_nothing}
 use Rattle.law_places.proofs.KeepLemmas.{stay_inside}
 use Rattle.law_turns.specs.Calls.{CameAlike, decoded_by, decoded_in, tags_behind}
@@ -95,7 +94,7 @@ still_one _ brings = refl
 
 still_all : (cs : List Change) → bring_nothing cs ≡ true → move_nothing cs ≡ true
 still_all [] brings = refl
-still_all (c ∷ cs) brings = let parts = both (brings_nothing c) (bring_nothing cs) brings in ap (λ b. b && move_nothing cs) (still_one c parts.0) ∙ still_all cs parts.1
+still_all (c ∷ cs) brings = let parts = and_parts (brings_nothing c) (bring_nothing cs) brings in ap (λ b. b && move_nothing cs) (still_one c parts.0) ∙ still_all cs parts.1
 
 -- none of these calls gives its caller another program
 module _ (k : Known) where
@@ -124,7 +123,7 @@ module _ (table : List Row) (pid : ℕ) (mounts : Mounts ℕ) (nothing_found : m
 
   new_all : (cs : List Change) (s : State ℕ Image) → bring_nothing cs ≡ true → NewPlacesStand table mounts pid s cs
   new_all [] s brings = tt
-  new_all (c ∷ cs) s brings = let parts = both (brings_nothing c) (bring_nothing cs) brings in (new_one c s parts.0, new_all cs (applied images mounts pid c s) parts.1)
+  new_all (c ∷ cs) s brings = let parts = and_parts (brings_nothing c) (bring_nothing cs) brings in (new_one c s parts.0, new_all cs (applied images mounts pid c s) parts.1)
 
 -- ---- the calm rules, of which none is broken
 
@@ -168,7 +167,7 @@ module _ (table : List Row) (made pid : ℕ) (no_shelf : Bool) (s w : State ℕ 
   rules = none_of_all _ _ _ _ _ _ calm_row
 
   row_unread : (done_in pid r told at).memory.read_marked ≡ false
-  row_unread = (neither (done_in pid r told at).memory.read_marked no_shelf rules.0).0
+  row_unread = (or_parts (done_in pid r told at).memory.read_marked no_shelf rules.0).0
 
   decoded_unread : (decoded_by p).memory.read_marked ≡ false
   decoded_unread = calm_unread table pid no_shelf s p can.lives calm

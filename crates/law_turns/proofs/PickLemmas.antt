@@ -4,7 +4,7 @@ use Rattle.std.specs.Prelude.{◌==◌, ◌&&◌, ◌%◌, map as map_list, not,
 use Rattle.std.specs.List.{filter, find}
 use Rattle.std.specs.Option.{option_map}
 use Rattle.pt_results.specs.pt_bind.Tags.{TagTable}
-use Rattle.std.proofs.lemmas.Option.{slice_get-map}
+use Rattle.std.proofs.lemmas.Option.{same_Some, slice_get-map}
 use Rattle.law_places.specs.kr_view.View.{Row, plain}
 use Rattle.law_places.specs.kr_model.Bare.{bare_process, pins_of}
 use Rattle.law_places.specs.kr_model.Known.{known}
@@ -61,10 +61,7 @@ module _ (table : List Row) (tags : TagTable) (s w : State ℕ Image) (m : IsMat
       at_head pid =
           let one : (x.pid == x.pid) ≡ true = eq-eqb x.pid x.pid refl in
           let two : (y.pid == x.pid) ≡ true = eq-eqb y.pid x.pid (sym pid) in
-          some_same (sym (ap (λ b. option_map (λ (p : Process ℕ Image). p.image.regs) (cond b (Some x) (find (is_pid x.pid) xs))) one) ∙ regs x.pid rise.0 ∙ ap (λ b. option_map (λ (p : Process ℕ Image). p.image.regs) (cond b (Some y) (find (is_pid x.pid) ys))) two)
-        where
-          some_same : {A : Type 0} {a b : A} → Some a ≡ Some b → a ≡ b
-          some_same e = cc
+          same_Some _ _ (sym (ap (λ b. option_map (λ (p : Process ℕ Image). p.image.regs) (cond b (Some x) (find (is_pid x.pid) xs))) one) ∙ regs x.pid rise.0 ∙ ap (λ b. option_map (λ (p : Process ℕ Image). p.image.regs) (cond b (Some y) (find (is_pid x.pid) ys))) two)
 
       behind : x.pid ≡ y.pid → (k : ℕ) → suc x.pid ≤ k → option_map (λ p. p.image.regs) (find (is_pid k) xs) ≡ option_map (λ p. p.image.regs) (find (is_pid k) ys)
       behind pid k above =

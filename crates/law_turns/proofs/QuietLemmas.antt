@@ -2,6 +2,8 @@
 use Rattle.std.proofs.Common.{◌≡◌, ◌≢◌, ℕ, Bool, true, false, cond, Option, Some, None, refl, sym, ap, subst, ◌∙◌, length, eq-eqb}
 use Rattle.std.specs.Prelude.{◌||◌, ◌%◌, IsSome, List}
 use Rattle.std.specs.Option.{option_map, option_map_or}
+use Rattle.std.proofs.lemmas.Option.{same_Some}
+use Rattle.std.proofs.lemmas.Bool.{or_parts}
 use Rattle.pt_results.specs.rv_mem.Memory.{Memory}
 use Rattle.pt_results.specs.rv_mem.declared.regs.Regs.{Regs}
 use Rattle.kr_core.specs.rv_cpu.Run.{Ran, ran}
@@ -22,7 +24,6 @@ use Rattle.kr_core.proofs.kr_steps.ComputingLemmas.{ran-stays-like}
 use Rattle.kr_core.specs.kr_turns.Breaking.{idle_rule, killed_rule}
 use Rattle.kr_core.specs.kr_turns.Turn.{Machine, after_event, by_pick, turn, turn_of}
 use Rattle.kr_core.specs.kr_stops.Watching.{Watcher}
-use Rattle.law_places.proofs.InUseLemmas.{neither}
 use Rattle.law_places.specs.Matching.{IsMatch}
 use Rattle.law_places.proofs.TagLemmas.{found_is}
 use Rattle.law_turns.specs.Quiet.{DropsTags, MachinesMatch, MakesNoCall, QuietTurnsKeepMatches}
@@ -34,9 +35,6 @@ use Rattle.law_turns.proofs.PickLemmas.{matches_go_on_alike}
 use Rattle.law_turns.proofs.RunLemmas.{instructions_alike}
 use Rattle.law_places.specs.kr_calm.declared.rule.Rule.{Rule}
 use Rattle.law_places.specs.kr_calm.declared.rule.Rule.TheVariants.{Unread}
-
-some_same : {A : Type 0} {a b : A} → Some a ≡ Some b → a ≡ b
-some_same e = cc
 
 -- ---- the calm rules
 
@@ -70,8 +68,8 @@ memory_computed pid regs memory s p lives = ap (λ (o : Option (Process ℕ Imag
 module _ {S T : Type 0} (watcher : Watcher S) (tracer : Watcher T) (tags_in : T → TagTable) (drops : DropsTags tracer tags_in) (table : List Row) where
   module _ (pid : ℕ) (m : Machine S) (n : Machine T) where
     unread : (e : Event) → e ≢ Call → (after_event watcher 1 table pid e m).tally.broken ≡ None → (memory_of pid m.state).read_marked ≡ false
-    unread Next quiet calm = (neither (memory_of pid m.state).read_marked false (first_unbroken ((memory_of pid m.state).read_marked || false) _ (kept_none m.tally.broken (idle_rule 1 table pid false m.state) calm))).0
-    unread (Killed signal) quiet calm = (neither (memory_of pid m.state).read_marked false (first_unbroken ((memory_of pid m.state).read_marked || false) _ (kept_none m.tally.broken (killed_rule 1 table pid signal m.state) calm))).0
+    unread Next quiet calm = (or_parts (memory_of pid m.state).read_marked false (first_unbroken ((memory_of pid m.state).read_marked || false) _ (kept_none m.tally.broken (idle_rule 1 table pid false m.state) calm))).0
+    unread (Killed signal) quiet calm = (or_parts (memory_of pid m.state).read_marked false (first_unbroken ((memory_of pid m.state).read_marked || false) _ (kept_none m.tally.broken (killed_rule 1 table pid signal m.state) calm))).0
     unread Call quiet calm = absurd (quiet refl)
 
     ends_alike : (e : Event) → e ≢ Call → (after_event watcher 1 table pid e m).tally.broken ≡ None → IsSome (process pid m.state) → IsLawful (λ m. m) plain n.state → MachinesMatch tags_in table m n
@@ -140,7 +138,7 @@ quiet_alike {S} {T} watcher tracer tags_in table pick fuel m n drops quiet calm 
         never : {A : Type 0} {a : A} → Some a ≡ None → ⊥
         never e = cc
     by (Some p) x (Some q) y same quiet calm =
-        let pid : p.pid ≡ q.pid = some_same (sym (ap (option_map (λ p. p.pid)) x) ∙ same ∙ ap (option_map (λ p. p.pid)) y) in
+        let pid : p.pid ≡ q.pid = same_Some _ _ (sym (ap (option_map (λ p. p.pid)) x) ∙ same ∙ ap (option_map (λ p. p.pid)) y) in
         let rise = match.states.placed.lawful.pids.living in
         let lives = picked_lives m.state.next_pid m.state pick p rise x in
         let also = picked_lives m.state.next_pid n.state pick q (subst (RiseFrom 2 m.state.next_pid) (same_pids table (tags_in n.watcher) m.state n.state match.states) rise) y in

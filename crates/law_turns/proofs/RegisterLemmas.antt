@@ -4,8 +4,9 @@ use Rattle.std.proofs.Common.{◌≡◌, ℕ, zero, suc, Bool, true, false, cond
 use Rattle.std.specs.Prelude.{◌==◌, map as map_list}
 use Rattle.std.specs.List.{find, list_all}
 use Rattle.std.specs.Option.{option_map, option_map_or}
+use Rattle.std.proofs.lemmas.Option.{same_Some}
+use Rattle.std.proofs.lemmas.Bool.{and_parts}
 use Rattle.pt_results.specs.rv_mem.declared.regs.Regs.{Regs}
-use Rattle.law_places.proofs.kr_calm.ChangeLemmas.{both}
 use Rattle.law_places.specs.kr_calm.Laws.{leaves_mark}
 use Rattle.law_places.specs.kr_files.Descriptors.{Meanings, Named}
 use Rattle.law_places.specs.kr_files.Files.{with_opened}
@@ -166,7 +167,7 @@ module _ (pid : ℕ) (regs : Regs) where
 
     changes : (cs : List Change) (s : State ℕ Image) → list_all leaves_mark cs ≡ true → Has s → Has (all_applied images mounts caller cs s)
     changes [] s mild h = h
-    changes (c ∷ cs) s mild h = let parts = both (leaves_mark c) (list_all leaves_mark cs) mild in changes cs (applied images mounts caller c s) parts.1 (change c parts.0 s h)
+    changes (c ∷ cs) s mild h = let parts = and_parts (leaves_mark c) (list_all leaves_mark cs) mild in changes cs (applied images mounts caller c s) parts.1 (change c parts.0 s h)
 
 pub changes_keep_registers : ChangesKeepRegisters
 changes_keep_registers mounts caller pid cs s regs mild h = changes pid regs mounts caller cs s mild h
@@ -178,15 +179,12 @@ module _ (pid : ℕ) (regs : Regs) where
   gone_on : (f : Regs → Regs) (waits : Bool) (ps : List (Process ℕ Image)) → HasIn pid regs ps → HasIn pid (f regs) (with_process pid (going f waits) ps)
   gone_on f waits ps h = ap (option_map (λ p. p.image.regs)) (found pid (going f waits) (λ p. refl) pid ps) ∙ by (find (is_pid pid) ps) refl h
     where
-      some_same : {A : Type 0} {a b : A} → Some a ≡ Some b → a ≡ b
-      some_same e = cc
-
       by : (o : Option (Process ℕ Image)) → find (is_pid pid) ps ≡ o → option_map (λ p. p.image.regs) o ≡ Some regs → option_map (λ p. p.image.regs) (option_map (at_pid pid (going f waits)) o) ≡ Some (f regs)
       by None is h = absurd (never h)
         where
           never : {A : Type 0} {a : A} → None ≡ Some a → ⊥
           never e = cc
-      by (Some p) is h = ap (λ b. Some (cond b (going f waits p) p).image.regs) (eq-eqb p.pid pid (found_is pid ps p is)) ∙ ap (λ r. Some (f r)) (some_same h)
+      by (Some p) is h = ap (λ b. Some (cond b (going f waits p) p).image.regs) (eq-eqb p.pid pid (found_is pid ps p is)) ∙ ap (λ r. Some (f r)) (same_Some _ _ h)
 
   settles : (outcome : Outcome) (s : State ℕ Image) → HasIn pid regs s.living → HasIn pid (told_by outcome regs) (settled pid outcome s).living
   settles (Answer value) s h = gone_on (with_answer value) false s.living h

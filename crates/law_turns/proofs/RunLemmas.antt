@@ -4,6 +4,7 @@ use Rattle.std.proofs.Common.{◌≡◌, ◌≢◌, ◌+◌, ◌-◌, ◌/◌, �
 use Rattle.std.specs.Prelude.{List, ◌%◌, is_some, nat_le, nat_lt, slice_index_or}
 use Rattle.std.specs.Option.{option_map, option_map_or}
 use Rattle.std.proofs.lemmas.Bool.{leb-false, leb-true, ltb-false, ltb-true}
+use Rattle.std.proofs.lemmas.Option.{same_Some}
 use Rattle.pt_results.specs.rv_mem.Actions.{AreEqualUnmarked, carried_out}
 use Rattle.pt_results.specs.rv_mem.Layout.{layout_of}
 use Rattle.pt_results.specs.rv_mem.Memory.{Memory}
@@ -34,12 +35,9 @@ use Rattle.law_turns.proofs.MatchLemmas.{match_computed}
 
 -- ---- the process of a number in both
 
-some_same : {A : Type 0} {a b : A} → Some a ≡ Some b → a ≡ b
-some_same e = cc
-
 module _ (table : List Row) (tags : TagTable) (pid : ℕ) (s w : State ℕ Image) (p q : Process ℕ Image) (m : IsMatch table tags s w) (lives : process pid s ≡ Some p) (also : process pid w ≡ Some q) where
   same_regs : p.image.regs ≡ q.image.regs
-  same_regs = some_same (sym (ap (option_map (λ p. p.image.regs)) lives) ∙ m.images.registers pid ∙ ap (option_map (λ p. p.image.regs)) also)
+  same_regs = same_Some _ _ (sym (ap (option_map (λ p. p.image.regs)) lives) ∙ m.images.registers pid ∙ ap (option_map (λ p. p.image.regs)) also)
 
   alike : AreEqualUnmarked p.image.memory.pages q.image.memory.pages
   alike = m.images.memories pid p q lives also

@@ -2,6 +2,7 @@
 use Rattle.std.proofs.Common.{◌≡◌, ℕ, Bool, true, false, cond, List, [], ◌∷◌, Some, refl, sym, ap, ◌∙◌, arith}
 use Rattle.std.specs.Prelude.{map as map_list, ◌==◌}
 use Rattle.std.specs.Option.{option_map}
+use Rattle.std.proofs.lemmas.Option.{same_Some}
 use Rattle.pt_results.specs.rv_mem.Layout.{Layout}
 use Rattle.pt_results.specs.rv_mem.declared.regs.Regs.{Regs}
 use Rattle.pt_results.specs.pt_bind.Tags.{TagTable}
@@ -56,11 +57,8 @@ module _ (pid : ℕ) (regs : Regs → Regs) (waits : Bool) where
     placed = places_idle table pid (going regs waits) s (record { pid = λ p. refl; cwd = λ p. refl; exe = λ p. refl }) m.placed (lawful_gone table s m.placed.lawful);
   }
     where
-      some_same : {A : Type 0} {a b : A} → Some a ≡ Some b → a ≡ b
-      some_same e = cc
-
       regs_alike : (x y : Process ℕ Image) → process pid s ≡ Some x → process pid w ≡ Some y → x.image.regs ≡ y.image.regs
-      regs_alike x y at_x at_y = some_same (sym (ap (option_map (λ p. p.image.regs)) at_x) ∙ m.images.registers pid ∙ ap (option_map (λ p. p.image.regs)) at_y)
+      regs_alike x y at_x at_y = same_Some _ _ (sym (ap (option_map (λ p. p.image.regs)) at_x) ∙ m.images.registers pid ∙ ap (option_map (λ p. p.image.regs)) at_y)
 
 pub match_settled : (table : List Row) (tags : TagTable) (pid : ℕ) (outcome : Outcome) (s w : State ℕ Image) → IsMatch table tags s w → IsMatch table tags (settled pid outcome s) (settled pid outcome w)
 match_settled table tags pid (Answer value) s w m = match_gone pid (with_answer value) false table tags s w m

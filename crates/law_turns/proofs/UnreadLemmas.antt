@@ -2,6 +2,7 @@
 use Rattle.std.proofs.Common.{◌≡◌, ℕ, Bool, true, false, cond, List, Option, Some, None, Ok, Err, refl, sym, ap, ◌∙◌}
 use Rattle.std.specs.Prelude.{◌||◌}
 use Rattle.std.specs.Option.{option_map_or}
+use Rattle.std.proofs.lemmas.Bool.{or_parts}
 use Rattle.pt_results.specs.rv_mem.Actions.{Action, carried_out}
 use Rattle.pt_results.specs.rv_mem.Memory.{Memory}
 use Rattle.law_places.specs.kr_view.View.{Row}
@@ -16,7 +17,6 @@ use Rattle.kr_core.specs.kr_seen.Carrying.{memory_of}
 use Rattle.law_places.proofs.kr_calm.ChangeLemmas.{marks_stay_read}
 use Rattle.kr_core.specs.kr_execve.Execution.{execution}
 use Rattle.kr_core.specs.kr_turns.Breaking.{decoded_rule, plain_rule, plain_rule_of, requested_rule}
-use Rattle.law_places.proofs.InUseLemmas.{neither}
 use Rattle.law_turns.specs.Calls.{decoded_by, decoded_in}
 use Rattle.law_turns.proofs.QuietLemmas.{first_unbroken, memory_computed}
 use Rattle.law_places.specs.kr_calm.declared.rule.Rule.{Rule}
@@ -36,7 +36,7 @@ unread_before action m unread = by m.read_marked refl
 module _ (table : List Row) (pid : ℕ) (no_shelf : Bool) (at : State ℕ Image) where
   -- the first rule, of all that is read in the call
   first : (memory : Memory) (other : Option Rule) → cond (memory.read_marked || no_shelf) (Some Unread) other ≡ None → memory.read_marked ≡ false
-  first memory other calm = (neither memory.read_marked no_shelf (first_unbroken (memory.read_marked || no_shelf) other calm)).0
+  first memory other calm = (or_parts memory.read_marked no_shelf (first_unbroken (memory.read_marked || no_shelf) other calm)).0
 
   request_unread : (r : Request) → requested_rule 1 table pid no_shelf r at ≡ None → (memory_of pid at).read_marked ≡ false
   request_unread (call.Execve path args env) calm =

@@ -3,6 +3,7 @@ use Rattle.std.proofs.Common.{◌≡◌, ℕ, Bool, true, false, cond, List, [],
 use Rattle.std.specs.Prelude.{◌&&◌}
 use Rattle.std.specs.List.{list_all}
 use Rattle.std.specs.Option.{option_map_or}
+use Rattle.std.proofs.lemmas.Bool.{and_parts}
 use Rattle.pt_results.specs.rv_mem.Actions.{carried_out}
 use Rattle.pt_results.specs.rv_mem.Memory.{Memory}
 use Rattle.pt_results.specs.pt_bind.Tags.{TagTable}
@@ -20,7 +21,6 @@ use Rattle.law_places.specs.kr_model.Seen.{Entered, Moves, Seen, Taken, TakesCov
 use Rattle.law_places.specs.kr_model.State.{Image, State}
 use Rattle.law_places.specs.kr_calm.Foreseen.{moved_away, prospect}
 use Rattle.law_places.specs.kr_calm.Prospects.{answers_zero, move, move_made, renameat2_made}
-use Rattle.law_places.proofs.kr_calm.ChangeLemmas.{both}
 use Rattle.law_places.proofs.kr_calm.ProspectLemmas.{foreseen_calls_make_it}
 use Rattle.law_places.specs.Changes.{NewPlaceStands, NewPlacesStand}
 use Rattle.law_turns.specs.Changing.{all_tags_made}
@@ -41,7 +41,7 @@ one_weaker _ leaves = leaves
 
 all_weaker : (cs : List Change) → leave_places cs ≡ true → leave_uses cs ≡ true
 all_weaker [] leave = refl
-all_weaker (c ∷ cs) leave = let parts = both (leaves_places c) (leave_places cs) leave in ap (λ b. b && leave_uses cs) (one_weaker c parts.0) ∙ all_weaker cs parts.1
+all_weaker (c ∷ cs) leave = let parts = and_parts (leaves_places c) (leave_places cs) leave in ap (λ b. b && leave_uses cs) (one_weaker c parts.0) ∙ all_weaker cs parts.1
 
 -- ---- a name that moves
 
@@ -95,7 +95,7 @@ module _ (table : List Row) (mounts : Mounts ℕ) (pid : ℕ) where
 
   pub bring_none : (cs : List Change) (s : State ℕ Image) → leave_uses cs ≡ true → NewPlacesStand table mounts pid s cs
   bring_none [] s leave = tt
-  bring_none (c ∷ cs) s leave = let parts = both (leaves_uses c) (leave_uses cs) leave in (brings_none c s parts.0, bring_none cs (applied images mounts pid c s) parts.1)
+  bring_none (c ∷ cs) s leave = let parts = and_parts (leaves_uses c) (leave_uses cs) leave in (brings_none c s parts.0, bring_none cs (applied images mounts pid c s) parts.1)
 
   tags_of_one : (tags : TagTable) (c : Change) (s : State ℕ Image) → leaves_uses c ≡ true → all_tags_made table mounts pid s (c ∷ []) tags ≡ tags
   tags_of_one tags (OpenFile fd cloexec from o) s leaves = absurd cc
@@ -109,5 +109,5 @@ module _ (table : List Row) (mounts : Mounts ℕ) (pid : ℕ) where
   pub tags_kept : (tags : TagTable) (cs : List Change) (s : State ℕ Image) → leave_uses cs ≡ true → all_tags_made table mounts pid s cs tags ≡ tags
   tags_kept tags [] s leave = refl
   tags_kept tags (c ∷ cs) s leave =
-      let parts = both (leaves_uses c) (leave_uses cs) leave in
+      let parts = and_parts (leaves_uses c) (leave_uses cs) leave in
       ap (all_tags_made table mounts pid (applied images mounts pid c s) cs) (tags_of_one tags c s parts.0) ∙ tags_kept tags cs (applied images mounts pid c s) parts.1

@@ -13,7 +13,7 @@ use Rattle.kr_mounts.specs.kr_tree.declared.place.Host.TheVariants.{Node, Proc}
 use Rattle.kr_mounts.specs.kr_tree.declared.place.Place.{Place}
 use Rattle.kr_mounts.specs.kr_tree.declared.place.ProcAt.{ProcAt}
 use Rattle.kr_mounts.specs.kr_tree.declared.place.ProcAt.TheVariants.{SelfLink, Dir, Cwd, Root, Exe, FdDir, Fd}
-use Rattle.kr_mounts.specs.kr_view.Component.{Finds, Namespace, Surroundings, above, above_body, above_host, above_node, above_process, in_node, inside, is_directory_at, is_process_directory, is_processes, landing, look_up, may_search, named, named_in, seen_at, seen_body, seen_entry, seen_in_processes, seen_link, shows_directory, through_point, too_long}
+use Rattle.kr_mounts.specs.kr_view.Component.{Finds, Namespace, Surroundings, above, above_body, above_host, above_node, above_process, in_node, in_processes, inside, is_directory_at, is_looked_up, is_process_directory, is_processes, landing, look_up, may_search, meets_processes, named, named_in, seen_at, seen_body, seen_entry, seen_in_processes, seen_link, shows_directory, through_point, too_long}
 use Rattle.kr_mounts.specs.kr_view.Walk.{looking}
 use Rattle.kr_mounts.specs.kr_view.View.{Row, down, is_root_place, node_in, up}
 use Rattle.kr_mounts.specs.kr_view.declared.procs.Lead.{Lead}
@@ -70,6 +70,17 @@ module _ (less : ℕ → ℕ) (t : Tree) where
 
     same_above_place : (p : Place ℕ) → above (space light) p ≡ above (space t) p
     same_above_place p = λ j. if is_root_place table p then shows_directory p else same_above_host p.mount p.host j
+
+    -- ---- what a look-up touches
+
+    same_in_processes : (x : Host) → in_processes (space light) x ≡ in_processes (space t) x
+    same_in_processes (Node i) = same_test less t is_processes i
+    same_in_processes (Proc i at) = refl
+
+    pub same_met : (p : Place ℕ) (c : Component) → meets_processes (space light) p c ≡ meets_processes (space t) p c
+    same_met p c =
+        λ j. if same_directory_at p.host j then (if same_search user p.host j then (if is_looked_up c then same_in_processes p.host j else false) else false)
+        else false
 
     -- ---- names
 

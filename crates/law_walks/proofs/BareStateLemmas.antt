@@ -20,6 +20,7 @@ use Rattle.kr_mounts.specs.kr_view.Component.{is_directory_at, seen_at}
 use Rattle.kr_mounts.specs.kr_view.HostReach.{host_place}
 use Rattle.kr_mounts.specs.kr_view.Living.{finds_among}
 use Rattle.kr_mounts.specs.kr_view.Names.{Remembered, guest_name}
+use Rattle.kr_mounts.specs.kr_view.Reach.{is_steady}
 use Rattle.kr_mounts.specs.kr_view.View.{is_there, plain, root_place}
 use Rattle.kr_mounts.specs.kr_view.Walk.{PlaceTarget, place_walk}
 use Rattle.kr_mounts.specs.kr_view.declared.procs.Lead.TheVariants.{Jump, Nameless, NoLink}
@@ -27,14 +28,15 @@ use Rattle.kr_model.specs.kr_files.WithoutMounts.{without_mount}
 use Rattle.kr_model.specs.kr_files.declared.opened.Opened.{Opened}
 use Rattle.kr_model.specs.Bare.{bare, bare_process, host_only}
 use Rattle.kr_model.specs.HostView.{base_name, base_text, cwd_name, exe_name, host_around_of, host_leads, host_open, host_space, linked_text, open_name}
-use Rattle.kr_model.specs.Peeks.{answer_along, at_found, body_head, body_text, head_at, kind_of_answer, kind_of_base, kind_seen, link_text_at, name_or_none, peeked_of, read_of}
+use Rattle.kr_model.specs.Peeks.{answer_along, at_found, body_head, body_text, head_at, host_walk, is_steady_path, kind_of_answer, kind_of_base, kind_seen, link_text_at, name_or_none, peeked_of, read_of}
 use Rattle.kr_model.specs.ProcessDirectory.{jump_to, living_of, name_text, remembered, unplaced_text}
 use Rattle.kr_model.specs.State.{Image, Layout, Process, State, image_layout, opened, process}
 use Rattle.kr_model.proofs.BareLemmas.{opened-bare, process-bare}
 use Rattle.law_walks.specs.Alike.{AreEqualButForMounts, HostWalksAreBare, PeeksAreBare}
 use Rattle.law_walks.specs.BareFacts.{process_text, text_on_host}
-use Rattle.law_walks.proofs.BareLookLemmas.{same_directory_at, same_looking, same_seen}
+use Rattle.law_walks.proofs.BareLookLemmas.{same_directory_at, same_looking, same_met, same_seen}
 use Rattle.law_walks.proofs.SpaceLemmas.{same_guest_name}
+use Rattle.law_walks.proofs.SteadyLemmas.{same_steady}
 use Rattle.law_walks.proofs.TreeLemmas.{same_body, same_may}
 
 -- of what may be there, one function tells of it with h what another tells of it
@@ -162,12 +164,18 @@ module _ (M : Type 0) (pins : ℕ → ℕ) (s : State M Image) where
     same_head n (Node i) = λ j. body_head (same_may pins s.tree s.user i Search j) n (same_body pins s.tree i j)
     same_head n (Proc i at) = refl
 
+    same_steady_path : (path : List ℕ) → is_steady_path b caller path ≡ is_steady_path s caller path
+    same_steady_path path =
+        ap (is_steady (host_around_of b caller) LookLink) (same_walk LookLink (root_place plain) path)
+        ∙ same_steady (host_around_of b caller) (host_around_of s caller) LookLink (λ p c j. same_met pins s.tree plain s.user (finds_among (same_living j)) p c j) (host_walk s caller LookLink path)
+
     pub same_peeks : peeked_of b caller ≡ peeked_of s caller
     same_peeks =
         λ j. record {
           kind = λ path. same_kind (same_answer path j) j;
           link_text = λ path. read_of (λ x. same_link_text x j) (same_answer path j);
           head = λ path n. read_of (λ x. same_head n x j) (same_answer path j);
+          steady = λ path. same_steady_path path j;
           base_kind = λ pid fd. of_opened kind_of_base kind_of_base refl (λ o. refl) pid fd j;
           base_name = λ pid fd. same_base_name pid fd j;
           cwd_name = λ pid. same_cwd_name pid j;

@@ -24,6 +24,7 @@ pub mod UpLemmas
 pub mod TreeLemmas
 pub mod SpaceLemmas
 pub mod BareLookLemmas
+pub mod SteadyLemmas
 pub mod BareStateLemmas
 pub mod OneMountLemmas
 pub mod BareFactLemmas

@@ -4,7 +4,7 @@ use kr_text::TreeWhy;
 use pr_base::NoMemory;
 use std::fmt::{self, Display, Formatter, Write};
 
-#[derive(Debug, Drop)]
+#[derive(Drop)]
 pub(crate) enum Fault {
     /// The word isn't a number, or there are several.
     Word,

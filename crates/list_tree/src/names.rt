@@ -6,7 +6,7 @@ use pr_base::Bytes;
 use std::alloc::Global;
 
 /// How many names were added, found and removed, and how many are left.
-#[derive(Clone, Copy, Debug, PartialEq, Eq)]
+#[derive(Clone, Copy)]
 pub(crate) struct Counts {
     pub(crate) added: u32,
     pub(crate) found: u32,

@@ -10,3 +10,4 @@ pub mod WalkLemmas
 pub mod WalkRows
 pub mod KeptWalkLemmas
 pub mod SameWalkLemmas
+pub mod RefusedLemmas

@@ -1,4 +1,5 @@
 pub mod Alike
+pub mod Digits
 pub mod Errno
 pub mod Fields
 pub mod Maps

@@ -3,7 +3,7 @@
 use crate::bytes::Bytes;
 
 /// A binding as it is asked for, by the options `-b` and `-r`.
-#[derive(Debug, Drop)]
+#[derive(Drop)]
 pub struct Bind {
     /// Which of the bindings it is, counted from 1. The root's has 0.
     pub index: u32,
@@ -16,7 +16,7 @@ pub struct Bind {
 }
 
 /// A binding as it was settled: all are texts of names from the root.
-#[derive(Debug, Drop)]
+#[derive(Drop)]
 pub struct Bound {
     /// Which of the bindings it is. The root's has 0.
     pub index: u32,

@@ -3,7 +3,7 @@ ghost use Rattle.std.specs.Prelude.{◌≡◌};
 ghost use Rattle.pr_base.specs.Errno.{errno_number};
 
 /// Why a call of the guest was refused. A guest sees the negated number.
-#[derive(Clone, Copy, Debug, PartialEq, Eq)]
+#[derive(Clone, Copy, PartialEq)]
 pub enum Errno {
     /// Operation not permitted.
     EPERM = 1,

@@ -5,7 +5,7 @@ use bitflags::{Flag, Flags, bitflag_items};
 
 /// Flags of open(2), without the prefix `O_`. The access mode is in the two lowest bits: reading alone has none
 /// of them set.
-#[derive(Clone, Copy, Debug, PartialEq, Eq)]
+#[derive(Clone, Copy)]
 pub struct OpenFlags(u32);
 
 bitflag_items! {
@@ -45,7 +45,7 @@ impl Flags for OpenFlags {
 }
 
 /// Flags of the calls that take a path relative to a descriptor, without the prefix `AT_`.
-#[derive(Clone, Copy, Debug, PartialEq, Eq)]
+#[derive(Clone, Copy)]
 pub struct AtFlags(u32);
 
 bitflag_items! {

@@ -2,8 +2,8 @@
 //!
 //! What is proved, with the clause or the law that carries it:
 //!
-//! Bytes, texts, want of memory, error numbers, bits of a word, little-endian fields, paths, flags of calls, bindings, what a tracer may ask, the
-//! rules of walks, finite maps.
+//! Bytes, texts, want of memory, error numbers, bits of a word, little-endian fields, paths, flags of calls, limits, decimal digits, bindings,
+//! what a tracer may ask, the rules of walks, finite maps.
 //!
 //! `Errno::number` is the number of errno(3) (`errno_number`).
 //!
@@ -38,10 +38,12 @@
 
 pub mod bind;
 pub mod bytes;
+pub mod digits;
 pub mod errno;
 pub mod fields;
 pub mod flags;
 pub mod laws;
+pub mod limits;
 pub mod memory;
 pub mod page;
 pub mod path;
@@ -51,6 +53,7 @@ pub mod word;
 
 pub use bind::{Bind, Bound};
 pub use bytes::Bytes;
+pub use digits::are_digits;
 pub use errno::Errno;
 pub use fields::{field_u16, field_u32, field_u64};
 pub use flags::{AtFlags, OpenFlags};

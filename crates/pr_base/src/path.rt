@@ -5,11 +5,10 @@ ghost use Rattle.pr_base.specs.Paths.{slash, parts_of, ends_in_slash, component_
 ghost use Rattle.pr_base.specs.Parts.{path_of, rest_of};
 ghost use Rattle.pr_base.specs.Pieces.{BeginsName, BeginsSlash};
 
-/// How many bytes a path has at most, with its zero.
-const TEXT_LIMIT: usize = 4096;
+use crate::limits::PATH_MAX;
 
 /// What a path ends with.
-#[derive(Clone, Copy, Debug, PartialEq, Eq)]
+#[derive(Clone, Copy, PartialEq)]
 pub enum Last {
     /// A name.
     Name,
@@ -22,7 +21,7 @@ pub enum Last {
 }
 
 /// What a walk along a path is for.
-#[derive(Clone, Copy, Debug, PartialEq, Eq)]
+#[derive(Clone, Copy, PartialEq)]
 pub enum WalkMode {
     /// Something that is there; a last link is followed.
     Look,
@@ -35,7 +34,7 @@ pub enum WalkMode {
 }
 
 /// The components of a path, in order: what stands between its slashes, `.` and `..` too.
-#[derive(Clone, Copy, Debug)]
+#[derive(Clone, Copy)]
 pub struct Parts<'a> {
     path: &'a [u8],
 }
@@ -85,7 +84,7 @@ impl<'a> IntoIterator for Parts<'a> {
 }
 
 /// The components of a path that weren't read yet.
-#[derive(Debug, Drop)]
+#[derive(Drop)]
 pub struct PartsLeft<'a> {
     rest: &'a [u8],
 }
@@ -128,7 +127,7 @@ pub fn components(path: &[u8]) -> Parts<'_>
 pub fn is_walked(path: &[u8]) -> bool
     ensures { result ≡ is_walked path.now }
 {
-    !path.is_empty() && path.len() < TEXT_LIMIT
+    !path.is_empty() && path.len() < PATH_MAX
 }
 
 /// What a path begins with after its leading slashes; `None` where nothing is left.

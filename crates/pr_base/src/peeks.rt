@@ -5,7 +5,7 @@ use crate::errno::Errno;
 use crate::memory::NoMemory;
 
 /// What stands at a host path.
-#[derive(Clone, Copy, Debug, PartialEq, Eq)]
+#[derive(Clone, Copy, PartialEq)]
 pub enum PeekKind {
     Dir,
     File,
@@ -16,7 +16,7 @@ pub enum PeekKind {
 }
 
 /// Why a peek wasn't answered.
-#[derive(Clone, Copy, Debug, PartialEq, Eq)]
+#[derive(Clone, Copy)]
 pub enum PeekFault {
     /// The kernel refused it.
     Err(Errno),
@@ -35,7 +35,7 @@ impl From<NoMemory> for PeekFault {
 }
 
 /// What a descriptor is to a walk that starts there.
-#[derive(Clone, Copy, Debug, PartialEq, Eq)]
+#[derive(Clone, Copy)]
 pub enum BaseKind {
     /// It isn't open.
     Closed,
@@ -50,7 +50,7 @@ pub enum BaseKind {
 pub trait Peeks {
     ghost use Rattle.std.specs.Prelude.{◌≡◌, IsTrue, IfOk};
     ghost use Rattle.pr_base.specs.Paths.{is_absolute};
-    ghost use Rattle.pr_base.specs.Peeks.{Peeked, IsPeeked, NamesAreTexts};
+    ghost use Rattle.pr_base.specs.Peeks.{Peeked, IsPeeked, NamesAreTexts, SteadyIsNoJump};
 
     /// What the kernel answers.
     ghost peeked: { Self → Peeked };
@@ -83,6 +83,13 @@ pub trait Peeks {
         ensures same { peeked self.new ≡ peeked self.old }
         ensures rest { kept self.new ≡ kept self.old };
 
+    /// Whether the walk along a host path looks up no name in the process directory, wherever it ends.
+    fn steady(&mut self, host: &[u8]) -> Result<bool, NoMemory>
+        requires { IsTrue (is_absolute host.now) }
+        ensures answer { IfOk result (λ steady. steady ≡ (peeked self.old).steady host.now) }
+        ensures same { peeked self.new ≡ peeked self.old }
+        ensures rest { kept self.new ≡ kept self.old };
+
     /// What a descriptor of a process is.
     fn base_kind(&mut self, pid: u32, fd: u32) -> BaseKind
         ensures answer { result ≡ (peeked self.old).base_kind pid fd }
@@ -110,4 +117,7 @@ pub trait Peeks {
 
     /// A name that is there is a text of well-formed names from the root.
     ghost names_are_texts: { (p : Self) → NamesAreTexts (peeked p) };
+
+    /// What stands at a steady host path is no link of the process directory.
+    ghost steady_is_no_jump: { (p : Self) → SteadyIsNoJump (peeked p) };
 }

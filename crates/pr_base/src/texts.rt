@@ -8,7 +8,7 @@ use std::alloc::Global;
 use std::marker::Model;
 
 /// Texts in order, as the arguments of a program, which contracts see as a list of lists of bytes.
-#[derive(Debug, Drop)]
+#[derive(Drop)]
 pub struct Texts {
     list: Vec<Bytes>,
 }

@@ -1,21 +1,17 @@
 -- The bytes of a text are bytes: those of UTF-8 are at most 255.
-use Rattle.std.proofs.Common.{inl, inr, ◌≡◌, ◌<◌, ◌+◌, ◌/◌, ◌%◌, ◌++◌, ◌&&◌, ℕ, Bool, true, false, List, [], ◌∷◌, map, refl, subst, arith}
+use Rattle.std.proofs.Common.{inl, inr, ◌≡◌, ◌<◌, ◌+◌, ◌/◌, ◌%◌, ◌++◌, ℕ, Bool, true, false, List, [], ◌∷◌, map, refl, subst, arith}
 use Rattle.std.specs.Prelude.{String, cond, nat_lt}
 use Rattle.std.specs.List.{AllByRecursion}
 use Rattle.std.specs.Str.{IsUtf8}
 use Rattle.std.specs.String.{string_bytes}
 use Rattle.std.proofs.Math.Utf8.{encode, encodes, scalar, scalars, scalar_cases}
-use Rattle.std.proofs.lemmas.Bool.{ltb-true}
+use Rattle.std.proofs.lemmas.Bool.{and_parts, ltb-true}
 use Rattle.std.proofs.lemmas.Str.{IsUtf8-string_bytes}
 use Rattle.pr_sources.specs.kr_tree.Lawful.{AreBytes}
 
 joined : (one two : List ℕ) → AreBytes one → AreBytes two → AreBytes (one ++ two)
 joined [] two are also = also
 joined (b ∷ one) two are also = (are.0, joined one two are.1 also)
-
-both : (a b : Bool) → (a && b) ≡ true → (a ≡ true) × (b ≡ true)
-both true b e = (refl, e)
-both false b e = absurd cc
 
 encode-bytes : (c : ℕ) → c < 1114112 → AreBytes (encode c)
 unfolding encode
@@ -36,7 +32,7 @@ scalar-small c e = elim (scalar_cases c e) [
 
 encodes-bytes : (cs : List ℕ) → scalars cs ≡ true → AreBytes (encodes cs)
 encodes-bytes [] e = tt
-encodes-bytes (c ∷ cs) e = let are = both (scalar c) (scalars cs) e in joined (encode c) (encodes cs) (encode-bytes c (scalar-small c are.0)) (encodes-bytes cs are.1)
+encodes-bytes (c ∷ cs) e = let are = and_parts (scalar c) (scalars cs) e in joined (encode c) (encodes cs) (encode-bytes c (scalar-small c are.0)) (encodes-bytes cs are.1)
 
 utf8-bytes : (bytes : List ℕ) → IsUtf8 bytes → AreBytes bytes
 utf8-bytes bytes is = subst AreBytes is.1.1 (encodes-bytes is.0 is.1.0)

@@ -6,7 +6,7 @@ ghost use Rattle.pr_gen.specs.Steps as spec;
 use pr_base::{Bytes, Texts};
 
 /// A step of a probe.
-#[derive(Debug, Drop)]
+#[derive(Drop)]
 pub enum ProbeStep {
     /// A call of the kernel. A call of number 220 is a clone.
     Call {
@@ -21,7 +21,7 @@ pub enum ProbeStep {
 }
 
 /// An argument of a call.
-#[derive(Debug, Drop)]
+#[derive(Drop)]
 pub enum Arg {
     /// A number.
     Num(u64),
@@ -36,7 +36,7 @@ pub enum Arg {
 }
 
 /// Who makes a step. Before a clone was made by a process or by one that it comes from, it isn't a child.
-#[derive(Clone, Copy, Debug, PartialEq, Eq)]
+#[derive(Clone, Copy)]
 pub enum Who {
     /// Each process.
     All,
@@ -47,7 +47,7 @@ pub enum Who {
 }
 
 /// What is shown of a call's answer, by one call of `write` to descriptor 1.
-#[derive(Clone, Copy, Debug, PartialEq, Eq)]
+#[derive(Clone, Copy)]
 pub enum Show {
     Nothing,
     /// The answer as a decimal number, and a newline.

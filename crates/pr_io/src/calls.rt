@@ -3,7 +3,7 @@ ghost use Rattle.std.specs.Prelude.{◌≡◌, ◌≤◌, ◌↔◌, Contains, I
 ghost use Rattle.pr_io.specs.Faults.{raised};
 
 /// The calls of an object that fails at listed ones: calls are numbered from 0.
-#[derive(Debug, Drop)]
+#[derive(Drop)]
 pub(crate) struct Calls {
     pub(crate) failing: Vec<u32>,
     pub(crate) made: u64,

@@ -14,7 +14,7 @@ use std::alloc::Global;
 use std::marker::Model;
 
 /// A source of the bytes that it was made of. No call fails, and each gives as many bytes as fit.
-#[derive(Debug, Drop)]
+#[derive(Drop)]
 pub struct CleanSource {
     unread: Unread,
     ended: bool,
@@ -73,7 +73,7 @@ impl Source for CleanSource {
 }
 
 /// A sink that keeps the bytes that it got. Only want of memory is ever answered.
-#[derive(Debug, Drop)]
+#[derive(Drop)]
 pub struct CleanSink {
     bytes: Bytes,
 }

@@ -17,7 +17,7 @@ use std::marker::Model;
 
 /// A source of the bytes that it was made of. It fails at the calls whose numbers, from 0, are
 /// listed, and gives as many bytes at the others as fit, or at most a step's.
-#[derive(Debug, Drop)]
+#[derive(Drop)]
 pub struct MemSource {
     unread: Unread,
     ended: bool,
@@ -48,7 +48,7 @@ impl MemSource {
         }
     }
 
-    /// The same, where a call gives at most `step` bytes.
+    /// The bytes, of which a call gives at most `step`, and the numbers of the calls that fail.
     pub fn slow(bytes: Bytes, step: u32, fail: Vec<u32>) -> MemSource
         requires { 1 ≤ step }
         ensures { result ≡ record { given = []; left = bytes; ended = false; failing = fail.items; calls = 0; faults = 0; step = Some step } }
@@ -119,7 +119,7 @@ impl Source for MemSource {
 
 /// A sink that keeps the bytes that it got. It fails at the calls whose numbers, from 0, are
 /// listed, and appends nothing there, or only the first bytes. A call that finds no memory is not counted.
-#[derive(Debug, Drop)]
+#[derive(Drop)]
 pub struct MemSink {
     bytes: Bytes,
     calls: Calls,
@@ -146,7 +146,7 @@ impl MemSink {
         }
     }
 
-    /// The same, where a call that fails appends the first `keep` bytes, or all where there are fewer.
+    /// No bytes yet, and the numbers of the calls that fail, which append the first `keep` bytes all the same, or all where there are fewer.
     pub fn torn(alloc: Global, fail: Vec<u32>, keep: u32) -> MemSink
         ensures { result ≡ record { got = []; failing = fail.items; calls = 0; faults = 0; keep = keep } }
     {

@@ -1,12 +1,12 @@
 //! A generated case: both machines run it, and their outcomes are compared.
-ghost use Rattle.std.specs.Prelude.{◌≡◌, true, IfOk};
+ghost use Rattle.std.specs.Prelude.{◌≡◌, IfOk};
 ghost use Rattle.std.specs.String.{string_bytes};
 ghost use Rattle.pr_io.specs.Drawn.{received};
 ghost use Rattle.kr_text.specs.Canonical.{canonical};
 ghost use Rattle.pr_run.specs.Case.{agree, case_report_of, end_words, lines, status_by, summary, summary_lines, told_of, yes_or_no};
 ghost use Rattle.pr_run.specs.Keeping.{kept_told, puts_told, report_told};
 ghost use Rattle.pr_run.specs.Puts.{AnswersCase, PutsCase, end_told};
-ghost use Rattle.pr_run.specs.Slots.{IsPlan, run_of};
+ghost use Rattle.pr_run.specs.Slots.{HasNoTurn, IsPlan, run_of};
 
 use crate::keeping::{Kept, keep, output, same};
 use crate::plan::Plan;
@@ -138,10 +138,8 @@ fn run_case<P: Places, S: Graphed, Q: Places, T: Graphed, const M: u8, const N: 
     mounted: &mut Kernel<Q, T, N>,
     plan: &Plan,
 ) -> Result<CaseTold, NoMemory>
-    requires watched_whole { watched.old.whole ≡ true }
-    requires watched_first { watched.old.turns ≡ 0 }
-    requires mounted_whole { mounted.old.whole ≡ true }
-    requires mounted_first { mounted.old.turns ≡ 0 }
+    requires watched { HasNoTurn watched.old }
+    requires mounted { HasNoTurn mounted.old }
     requires plan { IsPlan plan.now }
     ensures { IfOk result (λ told. report_told told ≡ case_report_of case plan.now.user (run_of S.does P.mounts P.number plan.now watched.old) (run_of T.does Q.mounts Q.number plan.now mounted.old)) }
 {
@@ -197,10 +195,8 @@ pub fn case_report<
     out: &mut O,
     left: &mut L,
 ) -> Answer
-    requires watched_whole { watched.old.whole ≡ true }
-    requires watched_first { watched.old.turns ≡ 0 }
-    requires mounted_whole { mounted.old.whole ≡ true }
-    requires mounted_first { mounted.old.turns ≡ 0 }
+    requires watched { HasNoTurn watched.old }
+    requires mounted { HasNoTurn mounted.old }
     requires plan { IsPlan plan.now }
     ensures { AnswersCase (case_report_of case plan.now.user (run_of S.does P.mounts P.number plan.now watched.old) (run_of T.does Q.mounts Q.number plan.now mounted.old))
         (received O.Sink out.old out.new) (received L.Sink left.old left.new) result }

@@ -6,7 +6,7 @@ ghost use Rattle.pr_run.specs.Case.{outcome};
 ghost use Rattle.pr_run.specs.Keeping.{KeepsTurn, kept_told, put_told, puts_told};
 ghost use Rattle.pr_run.specs.Puts.{GoesOn, end_told};
 ghost use Rattle.pr_run.specs.Report.{outs};
-ghost use Rattle.pr_run.specs.Slots.{IsPlan, run_of};
+ghost use Rattle.pr_run.specs.Slots.{HasNoTurn, IsPlan, run_of};
 
 use crate::plan::Plan;
 use crate::turns::{End, end_after};
@@ -81,8 +81,7 @@ fn keep_turns<P: Places, S: Graphed, const M: u8>(
     plan: &Plan,
     puts: &mut Vec<Written>,
 ) -> Result<End, NoMemory>
-    requires whole { kernel.old.whole ≡ true }
-    requires first { kernel.old.turns ≡ 0 }
+    requires kernel { HasNoTurn kernel.old }
     requires plan { IsPlan plan.now }
     requires empty { puts.old.items ≡ [] }
     ensures end { IfOk result (λ end. (run_of S.does P.mounts P.number plan.now kernel.old).ending ≡ end_told end) }
@@ -106,8 +105,7 @@ pub fn keep<P: Places, S: Graphed, const M: u8>(
     kernel: &mut Kernel<P, S, M>,
     plan: &Plan,
 ) -> Result<Kept, NoMemory>
-    requires whole { kernel.old.whole ≡ true }
-    requires first { kernel.old.turns ≡ 0 }
+    requires kernel { HasNoTurn kernel.old }
     requires plan { IsPlan plan.now }
     ensures kept { IfOk result (λ kept. kept_told kept (machine P.number kernel.new).state.tree ≡ outcome (run_of S.does P.mounts P.number plan.now kernel.old)) }
     ensures machine { OnOk result ((run_of S.does P.mounts P.number plan.now kernel.old).machine ≡ machine P.number kernel.new) }

@@ -1,11 +1,11 @@
 //! The report of a run.
-ghost use Rattle.std.specs.Prelude.{◌≡◌, ◌≤◌, true, IfOk};
+ghost use Rattle.std.specs.Prelude.{◌≡◌, ◌≤◌, IfOk};
 ghost use Rattle.pr_io.specs.Drawn.{received};
 ghost use Rattle.kr_core.specs.Kernel.{machine};
 ghost use Rattle.kr_text.specs.Canonical.{canonical};
 ghost use Rattle.pr_run.specs.Report.{answer_of, calm_line, calm_told, report_of};
 ghost use Rattle.pr_run.specs.Puts.{AnswersReport, PutsCalm, PutsListing, PutsReport, end_told};
-ghost use Rattle.pr_run.specs.Slots.{IsPlan, run_of};
+ghost use Rattle.pr_run.specs.Slots.{HasNoTurn, IsPlan, run_of};
 
 use crate::plan::Plan;
 use crate::turns::{End, Stop, put_some, run_turns};
@@ -91,8 +91,7 @@ fn put_report<P: Places, S: Graphed, O: Sink, R: Sink, L: Sink, const M: u8>(
     err: &mut R,
     left: &mut L,
 ) -> Result<Answer, Stop>
-    requires whole { kernel.old.whole ≡ true }
-    requires first { kernel.old.turns ≡ 0 }
+    requires kernel { HasNoTurn kernel.old }
     requires plan { IsPlan plan.now }
     ensures { PutsReport (report_of plan.now (run_of S.does P.mounts P.number plan.now kernel.old)) (received O.Sink out.old out.new) (received R.Sink err.old err.new) (received L.Sink left.old left.new) result }
 {
@@ -112,8 +111,7 @@ pub fn report<P: Places, S: Graphed, O: Sink, R: Sink, L: Sink, const M: u8>(
     err: &mut R,
     left: &mut L,
 ) -> Answer
-    requires whole { kernel.old.whole ≡ true }
-    requires first { kernel.old.turns ≡ 0 }
+    requires kernel { HasNoTurn kernel.old }
     requires plan { IsPlan plan.now }
     ensures { AnswersReport (report_of plan.now (run_of S.does P.mounts P.number plan.now kernel.old)) (received O.Sink out.old out.new) (received R.Sink err.old err.new) (received L.Sink left.old left.new) result }
 {

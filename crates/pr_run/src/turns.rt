@@ -7,7 +7,7 @@ ghost use Rattle.kr_core.specs.Kernel.{Clears, machine};
 ghost use Rattle.kr_core.specs.kr_turns.Run.{put_by};
 ghost use Rattle.pr_run.specs.Puts.{GoesOn, MakesTurn, PutsRun, PutsTurn, end_told};
 ghost use Rattle.pr_run.specs.Report.{last_ending};
-ghost use Rattle.pr_run.specs.Slots.{IsPlan, run_of};
+ghost use Rattle.pr_run.specs.Slots.{HasNoTurn, IsPlan, run_of};
 
 use crate::plan::Plan;
 use kr_core::below::turns_are_functions;
@@ -45,7 +45,7 @@ impl Stop {
 }
 
 /// How a run ended.
-#[derive(Clone, Copy, Debug, PartialEq, Eq)]
+#[derive(Clone, Copy, PartialEq)]
 pub enum End {
     /// No process lives.
     Over,
@@ -140,8 +140,7 @@ pub(crate) fn run_turns<P: Places, S: Graphed, O: Sink, R: Sink, const M: u8>(
     out: &mut O,
     err: &mut R,
 ) -> Result<End, Stop>
-    requires whole { kernel.old.whole ≡ true }
-    requires first { kernel.old.turns ≡ 0 }
+    requires kernel { HasNoTurn kernel.old }
     requires plan { IsPlan plan.now }
     ensures puts { PutsRun (run_of S.does P.mounts P.number plan.now kernel.old) (received O.Sink out.old out.new) (received R.Sink err.old err.new) result }
     ensures machine { OnOk result ((run_of S.does P.mounts P.number plan.now kernel.old).machine ≡ machine P.number kernel.new) }

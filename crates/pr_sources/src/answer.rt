@@ -13,7 +13,7 @@ use std::alloc::Global;
 use std::fmt;
 
 /// An object that is handed to the top call.
-#[derive(Clone, Copy, Debug, PartialEq, Eq)]
+#[derive(Clone, Copy, PartialEq)]
 pub enum Which {
     Tree,
     Elf,
@@ -39,7 +39,7 @@ impl fmt::Display for Which {
 }
 
 /// How the top call ended.
-#[derive(Clone, Copy, Debug, PartialEq, Eq)]
+#[derive(Clone, Copy)]
 pub enum Answer {
     /// No process lives; the status is that of the process that ended last: its exit code, or 128 and the signal that killed it. Of a generated
     /// case it is 0 where both machines came to the same outcome, and else 1.

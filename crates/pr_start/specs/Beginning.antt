@@ -1,5 +1,6 @@
 -- The start of a run over mounts: the working directory, the command, and then the first process, which is that of execve(2).
 use Rattle.std.specs.Prelude.{◌≡◌, ℕ, true, false, List, [], ◌∷◌, Option, Some, None, Result, Ok, Err}
+use Rattle.std.specs.List.{All}
 use Rattle.pr_base.specs.declared.errno.Errno.{Errno}
 use Rattle.pr_base.specs.declared.errno.Errno.TheVariants.{ENOENT}
 use Rattle.kr_tree.specs.kr_inode.declared.user.User.{User}
@@ -8,6 +9,7 @@ use Rattle.kr_view.specs.declared.target.Reach.{Reach}
 use Rattle.kr_view.specs.View.{Row}
 use Rattle.kr_start.specs.kr_model.State.{Image, State}
 use Rattle.kr_start.specs.kr_model.Walks.{and_then}
+use Rattle.kr_start.specs.law_allowed.Texts.{IsText}
 use Rattle.kr_core.specs.kr_first.declared.starting.First.{First}
 use Rattle.kr_core.specs.kr_first.declared.starting.StartFault.{StartFault}
 use Rattle.kr_core.specs.kr_first.declared.starting.StartFault.TheVariants as fault
@@ -24,6 +26,11 @@ use Rattle.pr_words.specs.Command.{arguments, ids_of, word_of}
 use Rattle.pr_start.specs.Command.{chosen}
 use Rattle.pr_start.specs.Numbers.{number_of}
 use Rattle.pr_words.specs.declared.launch.Launch.{Launch}
+
+-- what a process is launched with are texts
+pub record HasTexts (launch : Launch) : Type 0 where
+  pub command : All IsText launch.command
+  pub env : All IsText launch.env
 
 -- nothing is reached before the first walk
 abbrev pub nowhere : Reach

@@ -1,11 +1,10 @@
 //! The start.
 ghost use Rattle.std.specs.Prelude.{◌≡◌, ◌≢◌, IfOk};
-ghost use Rattle.std.specs.List.{All};
 ghost use Rattle.kr_core.specs.kr_first.Started.{LeadsToDirectory};
 ghost use Rattle.kr_start.specs.law_allowed.Texts.{IsText};
 ghost use Rattle.kr_mounts.specs.Stored.{table_of};
 ghost use Rattle.kr_start.specs.Ready.{IsReady};
-ghost use Rattle.pr_start.specs.Beginning.{Begins, BeginsUnmarked, Prepares, beginning};
+ghost use Rattle.pr_start.specs.Beginning.{Begins, BeginsUnmarked, HasTexts, Prepares, beginning};
 
 use crate::command::choose;
 use crate::directory::working_directory;
@@ -28,8 +27,7 @@ const NOWHERE: Reach = Reach {
 /// The first process as it is asked for: its working directory, and its program with its words. All walks to both count for the calm rules.
 fn prepare(alloc: Global, stage: &Stage, launch: Launch) -> Result<First, StartFault>
     requires ready { IsReady stage.now.tree stage.now.user (table_of stage.now.places) }
-    requires command { All IsText launch.command }
-    requires env { All IsText launch.env }
+    requires launch { HasTexts launch }
     ensures prepared { Prepares (table_of stage.now.places) stage.now.tree stage.now.user launch result }
     ensures text { IfOk result (λ first. IsText first.path) }
     ensures cwd { IfOk result (λ first. LeadsToDirectory (table_of stage.now.places) stage.now.tree stage.now.user first.cwd) }
@@ -81,8 +79,7 @@ pub fn start(
     watch: Watch,
 ) -> Result<Kernel<Mounted, Watch, 1>, StartFault>
     requires ready { IsReady stage.tree stage.user (table_of stage.places) }
-    requires command { All IsText launch.command }
-    requires env { All IsText launch.env }
+    requires launch { HasTexts launch }
     ensures begins { Begins (beginning (table_of stage.places) stage.tree stage.user watch launch input) result }
     ensures places { IfOk result (λ kernel. kernel.places ≡ stage.places) }
 {
@@ -105,8 +102,7 @@ pub fn start_unmarked(
     watch: Watch,
 ) -> Result<(Kernel<Mounted, Watch, 0>, Option<Rule>), StartFault>
     requires ready { IsReady stage.tree stage.user (table_of stage.places) }
-    requires command { All IsText launch.command }
-    requires env { All IsText launch.env }
+    requires launch { HasTexts launch }
     ensures begins { BeginsUnmarked (beginning (table_of stage.places) stage.tree stage.user watch launch input) result }
     ensures places { IfOk result (λ started. started.0.places ≡ stage.places) }
 {

@@ -4,8 +4,6 @@ ghost use Rattle.std.specs.Prelude.{◌≡◌, ◌⊎◌, ◌<◌, ◌^◌, None
 ghost use Rattle.std.specs.String.{string_bytes};
 ghost use Rattle.pr_io.specs.Drawn.{drawn, gave, received};
 ghost use Rattle.pr_words.specs.Sound.{AreSound};
-ghost use Rattle.std.specs.List.{All};
-ghost use Rattle.pr_start.specs.law_allowed.Texts.{IsText};
 ghost use Rattle.kr_mounts.specs.Standing.{texts_of};
 ghost use Rattle.kr_mounts.specs.Stored.{table_of};
 ghost use Rattle.pr_start.specs.kr_start.Ready.{IsOfListing, IsReady};
@@ -14,7 +12,7 @@ ghost use Rattle.pr_sources.specs.Asking.{asked};
 ghost use Rattle.pr_sources.specs.Reading.{AreDrawn, AsksCase, EndsBeforeElf, EndsBeforeInput, HasCause, IsListed, IsOfWords, IsReadAs, IsRefusal, ReadHasCause, ReadsSources, WantsElf, read_asked};
 ghost use Rattle.pr_sources.specs.Within.{IsAskedWithin, and_then};
 ghost use Rattle.pr_top.specs.Opening.{IsFresh, IsMarkedFor, IsOfOpening, IsOfStart, IsReadyToRun, Mounts, OpensFrom, ReadsAs, StartsAs, begun, ids_for, opening, started_as, started_on, watch_for};
-ghost use Rattle.pr_start.specs.Beginning.{beginning};
+ghost use Rattle.pr_start.specs.Beginning.{HasTexts, beginning};
 
 use crate::generated::begin_case;
 use kr_mounts::{BindFault, Mounted};
@@ -111,8 +109,7 @@ fn start_mounted(
     watch: Watch,
 ) -> Result<Kind, StartFault>
     requires ready { IsReady stage.tree stage.user (table_of stage.places) }
-    requires command { All IsText launch.command }
-    requires env { All IsText launch.env }
+    requires launch { HasTexts launch }
     ensures begins { StartsAs (started_as (Mounts (table_of stage.places)) (beginning (table_of stage.places) stage.tree stage.user watch launch input)) result }
     ensures fresh { IfOk result IsFresh }
     ensures marked { IfOk result (IsMarkedFor calm) }
@@ -142,8 +139,7 @@ fn start_on(
 ) -> Result<Kind, StartFault>
     requires ready { IsReady stage.tree stage.user (table_of stage.places) }
     requires texts { rows_of stage.texts ≡ texts_of (table_of stage.places) }
-    requires command { All IsText launch.command }
-    requires env { All IsText launch.env }
+    requires launch { HasTexts launch }
     ensures begins { StartsAs (started_on native (table_of stage.places) stage.tree stage.user ids launch input) result }
     ensures fresh { IfOk result IsFresh }
     ensures marked { IfOk result (IsMarkedFor calm) }

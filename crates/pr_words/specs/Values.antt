@@ -3,11 +3,9 @@ use Rattle.std.specs.Prelude.{ℕ, ◌-◌, nat_eq, nat_le, Bool, true, false, �
 use Rattle.std.specs.List.{list_all, ends_with, slice_split}
 use Rattle.std.specs.Option.{option_map, option_map_or, option_and_then}
 use Rattle.std.specs.Str.Parse.{digits_value}
+pub use Rattle.pr_base.specs.Digits.{is_digit}
 use Rattle.pr_words.specs.declared.options.Slot.{Slot}
 use Rattle.pr_words.specs.Spelling.{cut_at}
-
-abbrev pub is_digit : ℕ → Bool
-is_digit c = nat_le 48 c && nat_le c 57
 
 -- one digit or more, but not more than `digits` of them; zeros may lead
 abbrev pub is_numeral : ℕ → List ℕ → Bool

@@ -7,7 +7,7 @@ use pr_base::NoMemory;
 
 /// The rule that a word breaks. Of the rules up to `Twice` and `BadId` that one word breaks the one with
 /// the smallest number counts.
-#[derive(Clone, Copy, Debug, PartialEq, Eq)]
+#[derive(Clone, Copy)]
 pub enum Why {
     /// There is no such option.
     Unknown = 1,
@@ -54,7 +54,7 @@ impl Why {
 }
 
 /// Why words weren't read.
-#[derive(Clone, Copy, Debug, PartialEq, Eq)]
+#[derive(Clone, Copy)]
 pub enum WordsFault {
     /// The first word that breaks a rule, counted from 1, and the rule. It is the option's word, also
     /// where its value is the next word.
@@ -74,7 +74,7 @@ impl From<NoMemory> for WordsFault {
 }
 
 /// Why an option wasn't read.
-#[derive(Clone, Copy, Debug, PartialEq, Eq)]
+#[derive(Clone, Copy)]
 pub(crate) enum OptionFault {
     Broken(Why),
     NoMemory,

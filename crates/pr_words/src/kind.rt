@@ -1,7 +1,7 @@
 //! The kinds of options.
 
 /// What an option sets, under whichever of its names.
-#[derive(Clone, Copy, Debug, PartialEq, Eq)]
+#[derive(Clone, Copy)]
 pub(crate) enum Kind {
     /// The guest's root directory.
     Root,

@@ -7,7 +7,7 @@ use std::alloc::Global;
 use std::marker::Model;
 
 /// One slot of a schedule: in its turn the process at place `pick` runs, for `fuel` instructions at most.
-#[derive(Clone, Copy, Debug, PartialEq, Eq)]
+#[derive(Clone, Copy)]
 pub struct Slot {
     /// 0 to 255.
     pub pick: u32,
@@ -16,7 +16,7 @@ pub struct Slot {
 }
 
 /// Slots in order, which contracts see as a list.
-#[derive(Debug, Drop)]
+#[derive(Drop)]
 pub struct Slots {
     list: Vec<Slot>,
 }
@@ -75,7 +75,7 @@ impl Slots {
 }
 
 /// Bindings in the order in which they are given, which contracts see as a list.
-#[derive(Debug, Drop)]
+#[derive(Drop)]
 pub struct Binds {
     list: Vec<Bind>,
 }
@@ -150,7 +150,7 @@ impl Binds {
 }
 
 /// What the words ask for.
-#[derive(Debug, Drop)]
+#[derive(Drop)]
 pub struct Options {
     /// The path of the guest's root directory, `/` where none is given.
     pub root: Bytes,

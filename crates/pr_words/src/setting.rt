@@ -12,7 +12,7 @@ use pr_base::Bytes;
 use std::alloc::Global;
 
 /// What one option asks for.
-#[derive(Debug, Drop)]
+#[derive(Drop)]
 pub(crate) enum Setting {
     Root(Bytes),
     /// A host part and a location, and whether a last link is kept there.
@@ -119,7 +119,8 @@ impl Setting {
         }
     }
 
-    /// The same of an option that may be given again where it may not.
+    /// What an option of this kind with this value asks for. One that was given before and may stand once (`is_again`) breaks `Twice`, or a
+    /// smaller rule that its value breaks.
     pub(crate) fn read(
         alloc: Global,
         kind: Kind,

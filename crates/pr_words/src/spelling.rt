@@ -6,7 +6,7 @@ ghost use Rattle.pr_words.specs.Spelling.{cut_at, flag_named, short_named, renam
 use crate::kind::Kind;
 
 /// What one word is.
-#[derive(Clone, Copy, Debug, PartialEq, Eq)]
+#[derive(Clone, Copy)]
 pub(crate) enum Spelled {
     /// It begins the command.
     Command,

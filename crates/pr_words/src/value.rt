@@ -1,13 +1,11 @@
 //! What the value of an option says.
 ghost use Rattle.std.specs.Prelude.{◌≡◌, option_map};
-ghost use Rattle.std.specs.List.{list_all};
-ghost use Rattle.pr_words.specs.Values.{is_digit, is_numeral, number_of, turns_of, case_of, id_of, ids_of, slot_of, without_mark, binding_of, is_variable, variable_name, two_paths};
+ghost use Rattle.pr_words.specs.Values.{is_numeral, number_of, turns_of, case_of, id_of, ids_of, slot_of, without_mark, binding_of, is_variable, variable_name, two_paths};
 
 use crate::options::Slot;
 use crate::spelling::cut_at;
-
-/// The largest number of a user or group.
-const LARGEST_ID: u32 = 4_294_967_294;
+use pr_base::are_digits;
+use pr_base::limits::LARGEST_ID;
 
 /// The most turns of a run.
 const MOST_TURNS: u32 = 10_000_000;
@@ -20,18 +18,6 @@ const LAST_PICK: u32 = 255;
 
 /// The most instructions of a slot.
 const MOST_FUEL: u32 = 100_000;
-
-fn is_digit(byte: u8) -> bool
-    ensures { result ≡ is_digit byte }
-{
-    byte.is_ascii_digit()
-}
-
-fn are_digits(text: &[u8]) -> bool
-    ensures { result ≡ list_all is_digit text.now }
-{
-    text.iter().all(|byte| is_digit(*byte))
-}
 
 /// Whether this is one decimal digit or more, but no more than `digits` of them.
 fn is_numeral(text: &[u8], digits: usize) -> bool

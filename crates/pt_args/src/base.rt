@@ -4,15 +4,14 @@ ghost use Rattle.kr_calls.specs.PathTable.{path_use};
 ghost use Rattle.pt_canon.specs.pt_bind.Binding.{IsWritten, rows_of};
 ghost use Rattle.pt_canon.specs.Canon.{IsAnswer, texts_by};
 ghost use Rattle.pt_args.specs.Bases.{base_of, descriptor_base, descriptor_number, is_working_directory, or_lost, tagged_text, working_base, working_text};
+ghost use Rattle.pt_canon.specs.Leaving.{OnlyPeeks};
 
 use kr_calls::PathArg;
 use pt_canon::WalkErr;
+use pt_canon::below::pr_base::limits::AT_FDCWD;
 use pt_canon::below::pr_base::{BaseKind, Bytes, Errno, NoMemory, Peeks, components};
 use pt_canon::below::pt_bind::{Table, Tags};
 use std::alloc::Global;
-
-/// AT_FDCWD of openat(2): a relative path is taken from the working directory.
-const WORKING_DIRECTORY: i32 = -100;
 
 /// The guest text from which a path is taken: the root for an absolute one, else that of the working directory or of the
 /// directory that is open under its descriptor. `None` where no directory is open there, which the kernel finds by
@@ -27,8 +26,7 @@ pub(crate) fn base_of<K: Peeks>(
 ) -> Result<Option<Bytes>, WalkErr>
     ensures answer { IsAnswer (base_of (texts_by table.now (K.peeked kernel.old) tags.now) pid (path_use path.entry)) result }
     ensures written { IfOk result (λ base. IfSome base IsWritten) }
-    ensures same { K.peeked kernel.new ≡ K.peeked kernel.old }
-    ensures rest { K.kept kernel.new ≡ K.kept kernel.old }
+    ensures kernel { OnlyPeeks K.peeked K.kept kernel.old kernel.new }
 {
     if components(path.text).absolute() {
         let root = Bytes::copy(alloc, b"/")?;
@@ -47,7 +45,7 @@ pub(crate) fn base_of<K: Peeks>(
 fn is_working_directory(dirfd: i32) -> bool
     ensures { result ≡ is_working_directory dirfd }
 {
-    dirfd == WORKING_DIRECTORY
+    dirfd == AT_FDCWD
 }
 
 /// The number of a descriptor, `None` exactly where it is negative.
@@ -69,8 +67,7 @@ fn working_base<K: Peeks>(
 ) -> Result<Option<Bytes>, WalkErr>
     ensures answer { IsAnswer (working_base (texts_by table.now (K.peeked kernel.old) tags.now) pid) result }
     ensures written { IfOk result (λ base. IfSome base IsWritten) }
-    ensures same { K.peeked kernel.new ≡ K.peeked kernel.old }
-    ensures rest { K.kept kernel.new ≡ K.kept kernel.old }
+    ensures kernel { OnlyPeeks K.peeked K.kept kernel.old kernel.new }
 {
     let text = working_text(kernel, table, tags, pid)?;
     or_lost(text)
@@ -86,8 +83,7 @@ pub fn working_text<K: Peeks>(
 ) -> Result<Option<Bytes>, NoMemory>
     ensures text { IfOk result (λ text. text ≡ working_text (texts_by table.now (K.peeked kernel.old) tags.now) pid) }
     ensures written { IfOk result (λ text. IfSome text IsWritten) }
-    ensures same { K.peeked kernel.new ≡ K.peeked kernel.old }
-    ensures rest { K.kept kernel.new ≡ K.kept kernel.old }
+    ensures kernel { OnlyPeeks K.peeked K.kept kernel.old kernel.new }
 {
     let name = cwd_name(kernel, pid)?;
     tagged(table, tags.cwd(pid), name)
@@ -103,8 +99,7 @@ fn descriptor_base<K: Peeks>(
 ) -> Result<Option<Bytes>, WalkErr>
     ensures answer { IsAnswer (descriptor_base (texts_by table.now (K.peeked kernel.old) tags.now) pid fd ((K.peeked kernel.old).base_kind pid fd)) result }
     ensures written { IfOk result (λ base. IfSome base IsWritten) }
-    ensures same { K.peeked kernel.new ≡ K.peeked kernel.old }
-    ensures rest { K.kept kernel.new ≡ K.kept kernel.old }
+    ensures kernel { OnlyPeeks K.peeked K.kept kernel.old kernel.new }
 {
     match kernel.base_kind(pid, fd) {
         BaseKind::Closed | BaseKind::Other => Ok(None),
@@ -120,8 +115,7 @@ fn descriptor_base<K: Peeks>(
 fn cwd_name<K: Peeks>(kernel: &mut K, pid: u32) -> Result<Option<Bytes>, NoMemory>
     ensures answer { IfOk result (λ name. name ≡ (K.peeked kernel.old).cwd_name pid) }
     ensures written { IfOk result (λ name. IfSome name IsWritten) }
-    ensures same { K.peeked kernel.new ≡ K.peeked kernel.old }
-    ensures rest { K.kept kernel.new ≡ K.kept kernel.old }
+    ensures kernel { OnlyPeeks K.peeked K.kept kernel.old kernel.new }
 {
     kernel.cwd_name(pid)
 }
@@ -130,8 +124,7 @@ fn cwd_name<K: Peeks>(kernel: &mut K, pid: u32) -> Result<Option<Bytes>, NoMemor
 fn base_name<K: Peeks>(kernel: &mut K, pid: u32, fd: u32) -> Result<Option<Bytes>, NoMemory>
     ensures answer { IfOk result (λ name. name ≡ (K.peeked kernel.old).base_name pid fd) }
     ensures written { IfOk result (λ name. IfSome name IsWritten) }
-    ensures same { K.peeked kernel.new ≡ K.peeked kernel.old }
-    ensures rest { K.kept kernel.new ≡ K.kept kernel.old }
+    ensures kernel { OnlyPeeks K.peeked K.kept kernel.old kernel.new }
 {
     kernel.base_name(pid, fd)
 }

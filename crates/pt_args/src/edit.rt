@@ -6,7 +6,7 @@ use std::alloc::Global;
 use std::marker::Model;
 
 /// Registers by their numbers with the values that they hold for the plain kernel, which contracts see as a list.
-#[derive(Debug, Drop)]
+#[derive(Drop)]
 pub struct Swaps {
     list: Vec<(u8, u64)>,
 }
@@ -52,7 +52,7 @@ impl Swaps {
 }
 
 /// Bytes with the addresses at which they are written into the caller's memory, which contracts see as a list.
-#[derive(Debug, Drop)]
+#[derive(Drop)]
 pub struct Pokes {
     list: Vec<(u64, Bytes)>,
 }
@@ -98,7 +98,7 @@ impl Pokes {
 }
 
 /// What becomes of a call at its entry.
-#[derive(Debug, Drop)]
+#[derive(Drop)]
 pub enum Edit {
     /// The plain kernel sees it as it is.
     Pass,

@@ -5,6 +5,7 @@ ghost use Rattle.pt_args.specs.Edits.{both, edit_by, edit_of, first_of, is_long,
 ghost use Rattle.pt_args.specs.Plans.{plan_second};
 ghost use Rattle.pt_args.specs.Shelving.{address_below, with_item, with_zero};
 ghost use Rattle.pt_args.specs.Walks.{IsReached};
+ghost use Rattle.pt_canon.specs.Leaving.{OnlyPeeks};
 
 use crate::edit::{Edit, Swaps};
 use crate::plan::{Plan, Swapped, plan_second};
@@ -12,13 +13,14 @@ use crate::purpose::opens;
 use crate::reached::{Reached, walk_path};
 use crate::shelf::Shelf;
 use kr_calls::{Request, path_of};
+use pt_canon::below::pr_base::limits::PATH_MAX;
 use pt_canon::below::pr_base::{Errno, NoMemory, Peeks};
 use pt_canon::below::pt_bind::Tags;
 use pt_canon::{WalkErr, Walker};
 use std::alloc::Global;
 
 /// How many bytes a text has at most, without its zero.
-const LONGEST: usize = 4095;
+const LONGEST: usize = PATH_MAX - 1;
 
 /// What becomes of a process's call at its entry. Each of its paths is a guest path: it is walked over guest texts and swapped
 /// for a host path that leads the plain kernel to the same object, or to the same name of the same directory. A path that
@@ -39,8 +41,7 @@ pub fn rewrite<K: Peeks>(
     requires { IsTrue shelf → 65536 ≤ sp }
     ensures edit { IfOk result (λ edit. edit ≡ edit_of (texts_by walker.old (K.peeked kernel.old) tags.now) pid sp shelf request.now) }
     ensures walker { walker.new ≡ walker.old }
-    ensures same { K.peeked kernel.new ≡ K.peeked kernel.old }
-    ensures rest { K.kept kernel.new ≡ K.kept kernel.old }
+    ensures kernel { OnlyPeeks K.peeked K.kept kernel.old kernel.new }
 {
     let Rewritten { edit, first: _ } = rewrite_along(
         alloc, kernel, walker, tags, pid, sp, shelf, request,
@@ -56,7 +57,7 @@ pub struct Rewritten {
     pub first: Option<Reached>,
 }
 
-/// The same as `rewrite`, and where the first path led.
+/// What becomes of a process's call at its entry (`rewrite`), and where its first path led.
 pub fn rewrite_along<K: Peeks>(
     alloc: Global,
     kernel: &mut K,
@@ -71,8 +72,7 @@ pub fn rewrite_along<K: Peeks>(
     ensures edit { IfOk result (λ r. r.edit ≡ edit_of (texts_by walker.old (K.peeked kernel.old) tags.now) pid sp shelf request.now) }
     ensures first { IfOk result (λ r. r.first ≡ first_of (texts_by walker.old (K.peeked kernel.old) tags.now) pid request.now) }
     ensures walker { walker.new ≡ walker.old }
-    ensures same { K.peeked kernel.new ≡ K.peeked kernel.old }
-    ensures rest { K.kept kernel.new ≡ K.kept kernel.old }
+    ensures kernel { OnlyPeeks K.peeked K.kept kernel.old kernel.new }
 {
     let Some(path) = path_of(request, 0) else {
         return Ok(only(Edit::Pass));
@@ -115,8 +115,7 @@ fn edit_behind<K: Peeks>(
     requires first { IsReached first.now }
     ensures edit { IfOk result (λ edit. edit ≡ edit_by sp shelf (plan_second (texts_by walker.old (K.peeked kernel.old) tags.now) pid request.now first.now)) }
     ensures walker { walker.new ≡ walker.old }
-    ensures same { K.peeked kernel.new ≡ K.peeked kernel.old }
-    ensures rest { K.kept kernel.new ≡ K.kept kernel.old }
+    ensures kernel { OnlyPeeks K.peeked K.kept kernel.old kernel.new }
 {
     match plan_second(alloc, kernel, walker, tags, pid, request, first) {
         Ok(Plan::Passes) => Ok(Edit::Pass),
@@ -153,7 +152,7 @@ fn is_long(swapped: &Swapped) -> bool
     swapped.text.len() > LONGEST
 }
 
-/// The same of the second text, if there is one.
+/// Whether there is a second text, and it is too long for a path.
 fn is_second_long(second: &Option<Swapped>) -> bool
     ensures { result ≡ is_second_long second.now }
 {

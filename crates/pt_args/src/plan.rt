@@ -5,6 +5,7 @@ ghost use Rattle.pt_canon.specs.pt_bind.Binding.{rows_of};
 ghost use Rattle.pt_canon.specs.Canon.{IsAnswer, texts_by};
 ghost use Rattle.pt_args.specs.Plans.{plan_both, plan_first, plan_one, plan_second, swap_of};
 ghost use Rattle.pt_args.specs.Walks.{IsReached};
+ghost use Rattle.pt_canon.specs.Leaving.{OnlyPeeks};
 
 use crate::point::{both_are_busy, one_is_busy};
 use crate::purpose::{opens, text_for};
@@ -44,8 +45,7 @@ pub(crate) fn plan_second<K: Peeks>(
     requires { IsReached first.now }
     ensures answer { IsAnswer (plan_second (texts_by walker.old (K.peeked kernel.old) tags.now) pid request.now first.now) result }
     ensures walker { walker.new ≡ walker.old }
-    ensures same { K.peeked kernel.new ≡ K.peeked kernel.old }
-    ensures rest { K.kept kernel.new ≡ K.kept kernel.old }
+    ensures kernel { OnlyPeeks K.peeked K.kept kernel.old kernel.new }
 {
     let Some(path) = path_of(request, 1) else {
         return plan_one(alloc, walker.table(), request, first);

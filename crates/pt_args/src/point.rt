@@ -57,7 +57,7 @@ fn is_at_point(table: &Table, canon: &Canon) -> Result<bool, NoMemory>
     }
 }
 
-/// The same of the guest text of a name.
+/// Whether a guest text is a name that, below the host text of its directory, is the host text of a mount point.
 fn is_point_text(table: &Table, guest: &[u8]) -> Result<bool, NoMemory>
     requires { IsWritten guest.now }
     ensures { IfOk result (λ is. is ≡ is_point_text (rows_of table.now) (names_of guest.now)) }

@@ -12,7 +12,7 @@ use pt_canon::{Canon, WalkErr};
 use std::alloc::Global;
 
 /// What a path of a call is for.
-#[derive(Clone, Copy, Debug, PartialEq, Eq)]
+#[derive(Clone, Copy)]
 pub enum Purpose {
     /// Something that is there is looked up.
     LooksUp,

@@ -4,6 +4,7 @@ ghost use Rattle.kr_calls.specs.PathTable.{path_use};
 ghost use Rattle.pt_canon.specs.pt_bind.Binding.{IsWritten};
 ghost use Rattle.pt_canon.specs.Canon.{IsAnswer, texts_by};
 ghost use Rattle.pt_args.specs.Walks.{walked, walked_from, IsReached};
+ghost use Rattle.pt_canon.specs.Leaving.{OnlyPeeks};
 
 use crate::base::base_of;
 use crate::purpose::{Purpose, purpose_of};
@@ -36,8 +37,7 @@ pub fn walk_path<K: Peeks>(
     ensures answer { IsAnswer (walked (texts_by walker.old (K.peeked kernel.old) tags.now) pid opening (path_use path.entry)) result }
     ensures written { IfOk result (λ reached. IfSome reached IsReached) }
     ensures walker { walker.new ≡ walker.old }
-    ensures same { K.peeked kernel.new ≡ K.peeked kernel.old }
-    ensures rest { K.kept kernel.new ≡ K.kept kernel.old }
+    ensures kernel { OnlyPeeks K.peeked K.kept kernel.old kernel.new }
 {
     if path.text.is_empty() {
         return Ok(None);
@@ -61,8 +61,7 @@ fn walk_from<K: Peeks>(
     ensures answer { IsAnswer (walked_from (texts_by walker.old (K.peeked kernel.old) tags.now) opening (path_use path.entry) (Some base.now)) result }
     ensures written { IfOk result (λ reached. IfSome reached IsReached) }
     ensures walker { walker.new ≡ walker.old }
-    ensures same { K.peeked kernel.new ≡ K.peeked kernel.old }
-    ensures rest { K.kept kernel.new ≡ K.kept kernel.old }
+    ensures kernel { OnlyPeeks K.peeked K.kept kernel.old kernel.new }
 {
     answers_are_of_their_texts();
     let canon = walker.canon(kernel, tags, base, path.text, path.mode)?;

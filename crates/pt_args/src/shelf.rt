@@ -10,7 +10,7 @@ use std::alloc::Global;
 const ALIGNMENT: u64 = 8;
 
 /// Items with their addresses, each below the one before it.
-#[derive(Debug, Drop)]
+#[derive(Drop)]
 pub struct Shelf {
     /// The address below which the next item ends.
     pub top: u64,

@@ -1,7 +1,7 @@
 //! What of a process has a tag.
 
 /// What of a process has a tag.
-#[derive(Clone, Copy, Debug, PartialEq, Eq)]
+#[derive(Clone, Copy)]
 pub enum Slot {
     /// Its working directory.
     Cwd,

@@ -1,5 +1,6 @@
 pub use Rattle.pt_bind.proofs.pr_base as pr_base
 pub use Rattle.pt_bind.proofs as pt_bind
+pub mod AgreeLemmas
 mod AlongLemmas
 mod EndingLemmas
 mod GuestLemmas

@@ -45,6 +45,7 @@ over rows = record {
     kind = kind_at;
     link_text = text_at;
     head = λ host n. Err EACCES;
+    steady = λ host. true;
     base_kind = λ pid fd. base.Closed;
     base_name = λ pid fd. None;
     cwd_name = λ pid. None;

@@ -4,6 +4,8 @@ pub mod Canon
 pub mod Components
 pub mod Kept
 pub mod Laws
+pub mod Leaving
+pub mod LookedPaths
 pub mod Looks
 pub mod ProcessLinks
 pub mod Steps

@@ -4,6 +4,7 @@ use Rattle.std.specs.Prelude.{ℕ, Bool, true, false, List, [], ◌∷◌, lengt
 use Rattle.std.specs.List.{list_all}
 use Rattle.std.specs.Option.{option_map, option_and_then}
 use Rattle.std.specs.Str.Parse.{digits_value}
+pub use Rattle.pt_bind.specs.pr_base.Digits.{is_digit}
 use Rattle.pt_bind.specs.pr_base.MountText.{MountText}
 use Rattle.pt_bind.specs.pr_base.Paths.{text_of}
 use Rattle.pt_bind.specs.pr_base.Peeks.{Peeked}
@@ -19,9 +20,6 @@ use Rattle.pt_canon.specs.declared.link.ProcessLink.{ProcessLink}
 use Rattle.pt_canon.specs.declared.link.ProcessLink.TheVariants.{Cwd, Exe, Root, Fd}
 
 -- ---- which link stands at a host text, by its last names
-
-abbrev pub is_digit : ℕ → Bool
-is_digit c = nat_le 48 c && nat_le c 57
 
 -- the largest number of 32 bits
 abbrev pub largest : ℕ

@@ -10,7 +10,7 @@ use std::alloc::Global;
 use std::marker::Model;
 
 /// Where a path leads in the guest.
-#[derive(Debug, Drop)]
+#[derive(Drop)]
 pub struct Canon {
     /// The guest text of what was found. Where the last name may be free: of that entry, found or free, and behind
     /// any other last component of the directory.
@@ -28,7 +28,7 @@ pub struct Canon {
 }
 
 /// Why a walk has no answer.
-#[derive(Clone, Copy, Debug, PartialEq, Eq)]
+#[derive(Clone, Copy)]
 pub enum WalkErr {
     /// It fails.
     Err(Errno),
@@ -79,6 +79,7 @@ impl Model for Walker {
 impl Walker {
     ghost use Rattle.pt_bind.specs.Binding.{IsWritten, names_of, rows_of};
     ghost use Rattle.pt_canon.specs.Canon.{IsAnswer, canon_of, texts_by};
+    ghost use Rattle.pt_canon.specs.Leaving.{OnlyPeeks};
 
     pub fn new(alloc: Global, table: Table) -> Result<Walker, NoMemory>
         ensures { IfOk result (λ walker. walker ≡ table) }
@@ -108,8 +109,7 @@ impl Walker {
         ensures answer { IsAnswer (canon_of (texts_by self.old (K.peeked kernel.old) tags.now) mode (names_of base.now) path.now) result }
         ensures written { IfOk result (λ canon. IsWritten canon.guest) }
         ensures walker { self.new ≡ self.old }
-        ensures same { K.peeked kernel.new ≡ K.peeked kernel.old }
-        ensures rest { K.kept kernel.new ≡ K.kept kernel.old }
+        ensures kernel { OnlyPeeks K.peeked K.kept kernel.old kernel.new }
     {
         let translation = Translation {
             alloc: self.alloc,

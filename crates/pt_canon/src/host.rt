@@ -5,6 +5,7 @@ ghost use Rattle.pt_bind.specs.Binding.{IsWritten, names_of};
 ghost use Rattle.pt_canon.specs.ProcessLinks.{is_dir_kind};
 ghost use Rattle.pt_canon.specs.TextWalk.{itself_in};
 ghost use Rattle.pt_canon.specs.Looks.{IsDirectoryTold, IsItselfTold};
+ghost use Rattle.pt_canon.specs.Leaving.{OnlyPeeks};
 
 use crate::canon::WalkErr;
 use crate::guest::below_root;
@@ -15,8 +16,7 @@ use std::alloc::Global;
 pub(crate) fn kind_at<K: Peeks>(kernel: &mut K, host: &[u8]) -> Result<PeekKind, PeekFault>
     requires { IsWritten host.now }
     ensures answer { IsPeeked ((K.peeked kernel.old).kind host.now) result }
-    ensures same { K.peeked kernel.new ≡ K.peeked kernel.old }
-    ensures rest { K.kept kernel.new ≡ K.kept kernel.old }
+    ensures kernel { OnlyPeeks K.peeked K.kept kernel.old kernel.new }
 {
     kernel.kind(host)
 }
@@ -25,8 +25,7 @@ pub(crate) fn kind_at<K: Peeks>(kernel: &mut K, host: &[u8]) -> Result<PeekKind,
 pub(crate) fn link_text_at<K: Peeks>(kernel: &mut K, host: &[u8]) -> Result<Bytes, PeekFault>
     requires { IsWritten host.now }
     ensures answer { IsPeeked ((K.peeked kernel.old).link_text host.now) result }
-    ensures same { K.peeked kernel.new ≡ K.peeked kernel.old }
-    ensures rest { K.kept kernel.new ≡ K.kept kernel.old }
+    ensures kernel { OnlyPeeks K.peeked K.kept kernel.old kernel.new }
 {
     kernel.link_text(host)
 }
@@ -35,8 +34,7 @@ pub(crate) fn link_text_at<K: Peeks>(kernel: &mut K, host: &[u8]) -> Result<Byte
 pub(crate) fn is_directory<K: Peeks>(kernel: &mut K, host: &[u8]) -> Result<bool, NoMemory>
     requires { IsWritten host.now }
     ensures answer { IfOk result (λ is. is ≡ is_dir_kind ((K.peeked kernel.old).kind host.now)) }
-    ensures same { K.peeked kernel.new ≡ K.peeked kernel.old }
-    ensures rest { K.kept kernel.new ≡ K.kept kernel.old }
+    ensures kernel { OnlyPeeks K.peeked K.kept kernel.old kernel.new }
 {
     match kind_at(kernel, host) {
         Ok(kind) => Ok(kind == PeekKind::Dir),
@@ -49,8 +47,7 @@ pub(crate) fn is_directory<K: Peeks>(kernel: &mut K, host: &[u8]) -> Result<bool
 pub(crate) fn find_directory<K: Peeks>(kernel: &mut K, host: &[u8]) -> Result<(), WalkErr>
     requires { IsWritten host.now }
     ensures answer { IsDirectoryTold ((K.peeked kernel.old).kind host.now) result }
-    ensures same { K.peeked kernel.new ≡ K.peeked kernel.old }
-    ensures rest { K.kept kernel.new ≡ K.kept kernel.old }
+    ensures kernel { OnlyPeeks K.peeked K.kept kernel.old kernel.new }
 {
     match kind_at(kernel, host)? {
         PeekKind::Dir => Ok(()),
@@ -67,8 +64,7 @@ pub(crate) fn find_itself<K: Peeks>(
 ) -> Result<(), WalkErr>
     requires { IsWritten host.now }
     ensures answer { IsItselfTold ((K.peeked kernel.old).kind (itself_in (names_of host.now))) result }
-    ensures same { K.peeked kernel.new ≡ K.peeked kernel.old }
-    ensures rest { K.kept kernel.new ≡ K.kept kernel.old }
+    ensures kernel { OnlyPeeks K.peeked K.kept kernel.old kernel.new }
 {
     let itself = itself_in(alloc, host)?;
     let _found = kernel.kind(itself.as_slice())?;

@@ -1,5 +1,6 @@
 //! Laws of the definitions, each carried by a function that does nothing.
 ghost use Rattle.pt_canon.specs.Laws.{AnswersAreOfTheirTexts, TextsAreLookedAt, TextsLeadToThemselves};
+ghost use Rattle.pt_canon.specs.LookedPaths.{TextWalksAgree};
 
 /// Each case of looking at a component from a guest text.
 pub fn texts_are_looked_at()
@@ -14,4 +15,9 @@ pub fn texts_lead_to_themselves()
 /// The host text and the index of an answer are those of its guest text.
 pub fn answers_are_of_their_texts()
     ensures { AnswersAreOfTheirTexts }
+{}
+
+/// Text walks are one where each host path at which the one looks is told alike, whatever the tags.
+pub fn text_walks_agree()
+    ensures { TextWalksAgree }
 {}

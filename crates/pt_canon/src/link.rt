@@ -1,10 +1,10 @@
 //! Links of the process directory without a text of their own, by the names under which they stand, as proc(5) has them.
 ghost use Rattle.std.specs.Prelude.{◌≡◌};
-ghost use Rattle.std.specs.List.{list_all};
 ghost use Rattle.pt_bind.specs.Binding.{IsWritten, names_of};
-ghost use Rattle.pt_canon.specs.ProcessLinks.{is_digit, number_in, descriptor_link, process_link_at, link_at};
+ghost use Rattle.pt_canon.specs.ProcessLinks.{number_in, descriptor_link, process_link_at, link_at};
 
 use crate::guest::{below_root, parted};
+use pt_bind::below::pr_base::are_digits;
 
 /// A link of the process directory: what of which process it leads to.
 #[derive(Clone, Copy)]
@@ -17,18 +17,6 @@ pub enum ProcessLink {
     Root(u32),
     /// What a process has open by a descriptor.
     Fd(u32, u32),
-}
-
-fn is_digit(byte: u8) -> bool
-    ensures { result ≡ is_digit byte }
-{
-    byte.is_ascii_digit()
-}
-
-fn are_digits(name: &[u8]) -> bool
-    ensures { result ≡ list_all is_digit name.now }
-{
-    name.iter().all(|byte| is_digit(*byte))
 }
 
 /// The number of 32 bits that digits spell; none for any other name.

@@ -7,6 +7,7 @@ ghost use Rattle.pt_canon.specs.Laws.{host_bytes};
 ghost use Rattle.pt_canon.specs.ProcessLinks.{jump_at, landing_of, link_guest, link_name};
 ghost use Rattle.pt_canon.specs.TextWalk.{seen_kind, seen_text};
 ghost use Rattle.pt_canon.specs.Looks.{texts_in, led, IsKnown, IsEntered, IsSeen};
+ghost use Rattle.pt_canon.specs.Leaving.{OnlyPeeks};
 
 use crate::canon::WalkErr;
 use crate::guest::Guest;
@@ -45,8 +46,7 @@ impl<'a> Translation<'a> {
     ) -> Result<(), WalkErr>
         requires { IsKnown (texts_in self.now (K.peeked kernel.old)) at.now known }
         ensures answer { IsEntered (texts_in self.now (K.peeked kernel.old)) at.now result }
-        ensures same { K.peeked kernel.new ≡ K.peeked kernel.old }
-        ensures rest { K.kept kernel.new ≡ K.kept kernel.old }
+        ensures kernel { OnlyPeeks K.peeked K.kept kernel.old kernel.new }
     {
         match known {
             Known::Open => Ok(()),
@@ -65,8 +65,7 @@ impl<'a> Translation<'a> {
     /// What stands at a guest text of which the directory may be searched.
     pub(crate) fn see<K: Peeks>(&self, kernel: &mut K, at: &Guest) -> Result<Sight, WalkErr>
         ensures answer { let texts = texts_in self.now (K.peeked kernel.old) in IsSeen texts at.now (seen_text texts at.now) result }
-        ensures same { K.peeked kernel.new ≡ K.peeked kernel.old }
-        ensures rest { K.kept kernel.new ≡ K.kept kernel.old }
+        ensures kernel { OnlyPeeks K.peeked K.kept kernel.old kernel.new }
     {
         let host = self.host(at)?;
         match kind_at(kernel, host.as_slice()) {
@@ -86,8 +85,7 @@ impl<'a> Translation<'a> {
         requires written { IsWritten host.now }
         requires host { host.now ≡ host_bytes (texts_in self.now (K.peeked kernel.old)) at.now }
         ensures answer { let texts = texts_in self.now (K.peeked kernel.old) in IsSeen texts at.now (seen_kind texts at.now (host_of texts.bindings at.now) (Ok kind)) result }
-        ensures same { K.peeked kernel.new ≡ K.peeked kernel.old }
-        ensures rest { K.kept kernel.new ≡ K.kept kernel.old }
+        ensures kernel { OnlyPeeks K.peeked K.kept kernel.old kernel.new }
     {
         match kind {
             PeekKind::Dir => Ok(Sight::Directory),
@@ -109,8 +107,7 @@ impl<'a> Translation<'a> {
     ) -> Result<Option<Guest>, NoMemory>
         ensures answer { let texts = texts_in self.now (K.peeked kernel.old) in
             IfOk result (λ guest. guest ≡ led (jump_at texts.bindings texts.peeked texts.tags (host_of texts.bindings link.now))) }
-        ensures same { K.peeked kernel.new ≡ K.peeked kernel.old }
-        ensures rest { K.kept kernel.new ≡ K.kept kernel.old }
+        ensures kernel { OnlyPeeks K.peeked K.kept kernel.old kernel.new }
     {
         let host = self.host(link)?;
         match link_at(host.as_slice()) {
@@ -127,8 +124,7 @@ impl<'a> Translation<'a> {
     ) -> Result<Option<Guest>, NoMemory>
         ensures answer { let texts = texts_in self.now (K.peeked kernel.old) in
             IfOk result (λ guest. guest ≡ led (landing_of texts.bindings texts.peeked texts.tags link)) }
-        ensures same { K.peeked kernel.new ≡ K.peeked kernel.old }
-        ensures rest { K.kept kernel.new ≡ K.kept kernel.old }
+        ensures kernel { OnlyPeeks K.peeked K.kept kernel.old kernel.new }
     {
         match link_name(self.alloc, kernel, link)? {
             Some(name) => self.guest_of(link, name.as_slice()),
@@ -169,8 +165,7 @@ fn link_name<K: Peeks>(
 ) -> Result<Option<Bytes>, NoMemory>
     ensures name { IfOk result (λ name. option_map names_of name ≡ link_name (K.peeked kernel.old) link) }
     ensures written { IfOk result (λ name. IfSome name IsWritten) }
-    ensures same { K.peeked kernel.new ≡ K.peeked kernel.old }
-    ensures rest { K.kept kernel.new ≡ K.kept kernel.old }
+    ensures kernel { OnlyPeeks K.peeked K.kept kernel.old kernel.new }
 {
     match link {
         ProcessLink::Cwd(pid) => kernel.cwd_name(pid),

@@ -11,6 +11,7 @@ ghost use Rattle.pt_canon.specs.TextWalk.{TextSurroundings, look_text, seen_text
 ghost use Rattle.pt_canon.specs.Looks.{texts_in, sight_seen, IsKnown};
 ghost use Rattle.pt_canon.specs.declared.sight.Sight.TheVariants as sights;
 ghost use Rattle.pt_canon.specs.Steps.{ended, left_on, middle_trail, last_trail, start_of, IsFollowed, IsJumped, IsPassed, IsWay};
+ghost use Rattle.pt_canon.specs.Leaving.{OnlyPeeks};
 
 use crate::canon::{Canon, WalkErr};
 use crate::component::{Component, component_of};
@@ -19,6 +20,7 @@ use crate::guest::Guest;
 use crate::host::is_directory;
 use crate::sight::{Known, Sight};
 use crate::translation::Translation;
+use pt_bind::below::pr_base::limits::MOST_LINKS;
 use pt_bind::below::pr_base::{Bytes, Errno, Last, NoMemory, Peeks, WalkMode, components};
 use std::alloc::Global;
 
@@ -54,9 +56,6 @@ pub(crate) struct Terms {
     /// A slash stands behind the last component.
     pub(crate) slash: bool,
 }
-
-/// How many links a walk follows at most.
-const MOST_LINKS: u32 = 40;
 
 /// Whether a link is followed as the last component.
 fn is_followed(mode: WalkMode, slash: bool) -> bool
@@ -149,8 +148,7 @@ impl<'a> Translation<'a> {
     ) -> Result<Ending, WalkErr>
         requires { IsWritten base.now }
         ensures answer { IsAnswer (ended mode (text_walk (texts_in self.now (K.peeked kernel.old)) mode (names_of base.now) path.now)) result }
-        ensures same { K.peeked kernel.new ≡ K.peeked kernel.old }
-        ensures rest { K.kept kernel.new ≡ K.kept kernel.old }
+        ensures kernel { OnlyPeeks K.peeked K.kept kernel.old kernel.new }
     {
         let mut onward = self.begin(base, path)?;
         let mut left = MOST_LINKS;
@@ -194,8 +192,7 @@ impl<'a> Translation<'a> {
     ) -> Result<Way, WalkErr>
         ensures answer { let texts = texts_in self.now (K.peeked kernel.old) in
             IsWay texts mode left (left_on texts mode left onward.at (components_of onward.path) onward.slash) result }
-        ensures same { K.peeked kernel.new ≡ K.peeked kernel.old }
-        ensures rest { K.kept kernel.new ≡ K.kept kernel.old }
+        ensures kernel { OnlyPeeks K.peeked K.kept kernel.old kernel.new }
     {
         let Onward {
             mut at,
@@ -239,8 +236,7 @@ impl<'a> Translation<'a> {
         requires component { IsComponent (component_data component) }
         ensures answer { let texts = texts_in self.now (K.peeked kernel.old) in let rest = components_of behind.now in
             IsPassed texts terms rest (middle_trail texts terms at rest (look_text texts at (component_data component.entry))) result }
-        ensures same { K.peeked kernel.new ≡ K.peeked kernel.old }
-        ensures rest { K.kept kernel.new ≡ K.kept kernel.old }
+        ensures kernel { OnlyPeeks K.peeked K.kept kernel.old kernel.new }
     {
         self.enter(kernel, &at, known)?;
         match component {
@@ -266,8 +262,7 @@ impl<'a> Translation<'a> {
         requires { let texts = texts_in self.now (K.peeked kernel.old) in seen_text texts at ≡ sight_seen texts at sight }
         ensures answer { let texts = texts_in self.now (K.peeked kernel.old) in let rest = components_of behind.now in
             IsPassed texts terms rest (middle_trail texts terms (above at) rest (sight_seen texts at sight)) result }
-        ensures same { K.peeked kernel.new ≡ K.peeked kernel.old }
-        ensures rest { K.kept kernel.new ≡ K.kept kernel.old }
+        ensures kernel { OnlyPeeks K.peeked K.kept kernel.old kernel.new }
     {
         match sight {
             Sight::Missing => Err(WalkErr::Err(Errno::ENOENT)),
@@ -307,8 +302,7 @@ impl<'a> Translation<'a> {
         requires component { IsComponent (component_data component) }
         ensures answer { let texts = texts_in self.now (K.peeked kernel.old) in let c = component_data component.entry in
             IsWay texts terms.mode terms.left (last_trail texts terms at c (look_text texts at c)) result }
-        ensures same { K.peeked kernel.new ≡ K.peeked kernel.old }
-        ensures rest { K.kept kernel.new ≡ K.kept kernel.old }
+        ensures kernel { OnlyPeeks K.peeked K.kept kernel.old kernel.new }
     {
         self.enter(kernel, &at, known)?;
         match component {
@@ -332,8 +326,7 @@ impl<'a> Translation<'a> {
     ) -> Result<Way, WalkErr>
         ensures answer { let texts = texts_in self.now (K.peeked kernel.old) in (dir : List (List ℕ)) (name : List ℕ) → at ≡ name ∷ dir
             → IsWay texts terms.mode terms.left (last_trail texts terms dir (Name name) (sight_seen texts at sight)) result }
-        ensures same { K.peeked kernel.new ≡ K.peeked kernel.old }
-        ensures rest { K.kept kernel.new ≡ K.kept kernel.old }
+        ensures kernel { OnlyPeeks K.peeked K.kept kernel.old kernel.new }
     {
         match sight {
             Sight::Missing => arrive_free(at, terms),
@@ -355,8 +348,7 @@ impl<'a> Translation<'a> {
     fn jump<K: Peeks>(&self, kernel: &mut K, link: &Guest, left: u32) -> Result<Guest, WalkErr>
         ensures answer { let texts = texts_in self.now (K.peeked kernel.old) in
             IsJumped left (jump_at texts.bindings texts.peeked texts.tags (host_of texts.bindings link.now)) result }
-        ensures same { K.peeked kernel.new ≡ K.peeked kernel.old }
-        ensures rest { K.kept kernel.new ≡ K.kept kernel.old }
+        ensures kernel { OnlyPeeks K.peeked K.kept kernel.old kernel.new }
     {
         if left == 0 {
             return Err(WalkErr::Err(Errno::ELOOP));
@@ -373,8 +365,7 @@ impl<'a> Translation<'a> {
         requires { is_followed terms.mode terms.slash ≡ true }
         ensures answer { let texts = texts_in self.now (K.peeked kernel.old) in (dir : List (List ℕ)) (name : List ℕ) →
             IsWay texts terms.mode terms.left (last_trail texts terms dir (Name name) (sight_seen texts link.now Sight.Jumps)) result }
-        ensures same { K.peeked kernel.new ≡ K.peeked kernel.old }
-        ensures rest { K.kept kernel.new ≡ K.kept kernel.old }
+        ensures kernel { OnlyPeeks K.peeked K.kept kernel.old kernel.new }
     {
         let guest = self.jump(kernel, link, terms.left)?;
         if !wants_directory(terms.mode, terms.slash) {

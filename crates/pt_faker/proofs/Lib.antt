@@ -3,7 +3,6 @@ pub use Rattle.kr_exec.proofs as kr_exec
 pub use Rattle.kr_stops.proofs as kr_stops
 mod AnswerLemmas
 pub mod AuxiliaryLemmas
-mod DecodingLemmas
 pub mod FakerLemmas
 pub mod FakingLemmas
 pub mod StopLemmas

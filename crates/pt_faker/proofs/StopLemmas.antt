@@ -21,9 +21,15 @@ use Rattle.pr_base.specs.declared.errno.Errno.TheVariants.{EFAULT}
 use Rattle.pt_ident.specs.Identity.{Answered, Identity, Numbers, answered, numbers_in, refusal, tell_numbers}
 use Rattle.pt_ident.specs.Showing.{shown_stat}
 use Rattle.pt_faker.specs.Carrying.{CarriesOut, on_its_memory}
+use Rattle.pt_faker.specs.Stopping.{OnlyEdits}
 use Rattle.pt_ident.specs.IdentityTable.{IdentityTable, shown_owners}
-use Rattle.pt_faker.proofs.DecodingLemmas.{decoding-keeps}
+use Rattle.kr_stops.proofs.law_lawful.kr_model.kr_calls.DecodingLemmas.{decodings_leave_pages}
 use Rattle.pt_faker.specs.Faking.{show_owner}
+
+-- ---- edits of what is stopped, one after the other
+
+pub only-then : {A B : Type 0} {stopped : A → Stopped} {around : A → B} {t u v : A} → OnlyEdits stopped around t u → OnlyEdits stopped around u v → OnlyEdits stopped around t v
+only-then first second = record { edits = edited-then _ _ _ first.edits second.edits; rest = second.rest ∙ first.rest }
 
 -- ---- answers
 
@@ -99,7 +105,7 @@ module _ (t : Stopped) (there : IsThere t) where
 
   -- reading a call is an edit, too
   pub request-edits : (u : Stopped) → u ≡ after_request t → IsEdited t u
-  request-edits u e = subst (λ (v : Stopped). IsEdited t v) (sym e) (memory-edits (decoded_at t).memory (ap layout_of (decoding-keeps (image_at t).regs (memory_at t))))
+  request-edits u e = subst (λ (v : Stopped). IsEdited t v) (sym e) (memory-edits (decoded_at t).memory (ap layout_of (decodings_leave_pages (image_at t).regs (memory_at t))))
 
   -- bytes that were read and written
   pub poke-peek : (u v : Stopped) (at n : ℕ) (bytes : List ℕ) → u ≡ after_peek at n t → v ≡ after_poke at bytes u

@@ -1,6 +1,6 @@
 //! Calls on users and groups, which are answered in place of the kernel.
 ghost use Rattle.std.specs.Prelude.{◌≡◌, IfOk};
-ghost use Rattle.kr_stops.specs.Stopped.{IsEdited};
+ghost use Rattle.pt_faker.specs.Stopping.{OnlyEdits};
 ghost use Rattle.pt_ident.specs.Identity.{effect};
 ghost use Rattle.pt_faker.specs.Carrying.{AnswersAny};
 
@@ -21,9 +21,9 @@ pub fn answer_call<T: Tracee>(
     request: &Request,
 ) -> Result<Option<i64>, NoMemory>
     ensures answers { IfOk result (λ told. AnswersAny ids.old (effect ids.old request.now) told ids.new (T.stopped t.old) (T.stopped t.new)) }
-    ensures edits { IsEdited (T.stopped t.old) (T.stopped t.new) }
-    ensures rest { T.around t.new ≡ T.around t.old }
+    ensures edits { OnlyEdits T.stopped T.around t.old t.new }
 {
+    // For the proof alone: the process lives.
     let _pid = t.pid();
     match answer(ids, request) {
         None => Ok(None),

@@ -1,6 +1,6 @@
 //! The auxiliary vector of a new program (getauxval(3)), which stands on its stack behind its arguments and its environment.
 ghost use Rattle.std.specs.Prelude.{◌≡◌, OnOk};
-ghost use Rattle.kr_stops.specs.Stopped.{IsEdited};
+ghost use Rattle.pt_faker.specs.Stopping.{OnlyEdits};
 ghost use Rattle.pt_faker.specs.Carrying.{GoesOn, on_its_memory};
 ghost use Rattle.pt_faker.specs.Faking.{behind_list, put_values, show_identity, word_at};
 
@@ -24,9 +24,9 @@ const PAIR: u64 = 16;
 /// The word at an address, the lowest byte first; `None` where one of them can't be read.
 fn read_word<T: Tracee>(t: &mut T, at: u64) -> Option<u64>
     ensures read { GoesOn (word_at at) result (T.stopped t.old) (T.stopped t.new) }
-    ensures edits { IsEdited (T.stopped t.old) (T.stopped t.new) }
-    ensures rest { T.around t.new ≡ T.around t.old }
+    ensures edits { OnlyEdits T.stopped T.around t.old t.new }
 {
+    // For the proof alone: the process lives.
     let _pid = t.pid();
     let mut bytes = [0; 8];
     match t.peek(at, &mut bytes, Use::Read) {
@@ -38,9 +38,9 @@ fn read_word<T: Tracee>(t: &mut T, at: u64) -> Option<u64>
 /// The address behind a list of words, its last one 0; `None` where one can't be read, or there are more than `most`.
 fn behind_list<T: Tracee>(t: &mut T, most: u32, at: u64) -> Option<u64>
     ensures behind { GoesOn (behind_list most at) result (T.stopped t.old) (T.stopped t.new) }
-    ensures edits { IsEdited (T.stopped t.old) (T.stopped t.new) }
-    ensures rest { T.around t.new ≡ T.around t.old }
+    ensures edits { OnlyEdits T.stopped T.around t.old t.new }
 {
+    // For the proof alone: the process lives.
     let _pid = t.pid();
     let mut next = at;
     for _word in 0..most {
@@ -59,9 +59,9 @@ fn behind_list<T: Tracee>(t: &mut T, most: u32, at: u64) -> Option<u64>
 /// only be dropped.
 fn put_values<T: Tracee>(t: &mut T, at: u64, values: &[u32]) -> Result<(), NoMemory>
     ensures puts { OnOk result (T.stopped t.new ≡ on_its_memory (put_values at values.now) (T.stopped t.old)) }
-    ensures edits { IsEdited (T.stopped t.old) (T.stopped t.new) }
-    ensures rest { T.around t.new ≡ T.around t.old }
+    ensures edits { OnlyEdits T.stopped T.around t.old t.new }
 {
+    // For the proof alone: the process lives.
     let _pid = t.pid();
     let mut next = at;
     for value in values {
@@ -78,9 +78,9 @@ fn put_values<T: Tracee>(t: &mut T, at: u64, values: &[u32]) -> Result<(), NoMem
 /// may only be dropped.
 pub fn show_identity<T: Tracee>(t: &mut T, ids: &Ids, stack: u64) -> Result<(), NoMemory>
     ensures shows { OnOk result (T.stopped t.new ≡ on_its_memory (show_identity ids.now stack) (T.stopped t.old)) }
-    ensures edits { IsEdited (T.stopped t.old) (T.stopped t.new) }
-    ensures rest { T.around t.new ≡ T.around t.old }
+    ensures edits { OnlyEdits T.stopped T.around t.old t.new }
 {
+    // For the proof alone: the process lives.
     let _pid = t.pid();
     let Some(environment) = behind_list(t, MOST_WORDS, stack.wrapping_add(WORD)) else {
         return Ok(());

@@ -1,6 +1,6 @@
 //! A watcher that gives each process an identity of its own.
 ghost use Rattle.std.specs.Prelude.{◌≡◌, ◌%◌, OnOk};
-ghost use Rattle.kr_stops.specs.Stopped.{IsEdited};
+ghost use Rattle.pt_faker.specs.Stopping.{OnlyEdits};
 ghost use Rattle.pt_faker.specs.Faking.{due_of};
 ghost use Rattle.pt_faker.specs.declared.due.Due.TheVariants.{BeginsProgram, Remembers, ShowsOwner};
 ghost use Rattle.pt_ident.specs.pt_owner.Owners.{modes};
@@ -15,15 +15,13 @@ use crate::registers::{ANSWER, STACK, forgive, has_answered_zero, take_number, t
 use crate::remembering::remember;
 use kr_stops::{Stops, Tracee};
 use pr_base::NoMemory;
+use pr_base::limits::MODES;
 use pt_ident::Identities;
 use pt_ident::below::kr_calls::{CallFault, Request};
 use pt_ident::below::kr_inode::User;
 use pt_ident::below::pt_owner::Change;
 use std::alloc::Global;
 use std::marker::Model;
-
-/// How many modes differ in permissions alone.
-const MODES: u32 = 0o10000;
 
 /// Gives each process an identity of its own, as which it also sees what the host user owns. After want of memory it may only be
 /// dropped.
@@ -71,8 +69,7 @@ impl Faker {
     /// The first stop of a call that could be read: it is answered here, or left to the kernel.
     fn take_up<T: Tracee>(&mut self, t: &mut T, request: &Request) -> Result<(), NoMemory>
         ensures enters { OnOk result ((self.new, T.stopped t.new) ≡ after_effect self.old request.now (T.stopped t.old) (effect (identity_at self.old.identities (T.stopped t.old).pid) request.now)) }
-        ensures edits { IsEdited (T.stopped t.old) (T.stopped t.new) }
-        ensures rest { T.around t.new ≡ T.around t.old }
+        ensures edits { OnlyEdits T.stopped T.around t.old t.new }
     {
         let pid = t.pid();
         let mut ids = self.identities.take(pid)?;
@@ -93,9 +90,9 @@ impl Faker {
     /// The second stop of a call of which something is due.
     fn settle<T: Tracee>(&mut self, t: &mut T, due: Due) -> Result<(), NoMemory>
         ensures exits { OnOk result ((self.new, T.stopped t.new) ≡ after_due self.old (T.stopped t.old) (Some due)) }
-        ensures edits { IsEdited (T.stopped t.old) (T.stopped t.new) }
-        ensures rest { T.around t.new ≡ T.around t.old }
+        ensures edits { OnlyEdits T.stopped T.around t.old t.new }
     {
+        // For the proof alone: the process lives.
         let _pid = t.pid();
         match due {
             Due::Tells { number, answer } => {
@@ -116,9 +113,9 @@ impl Faker {
     /// An owner or a mode that a call sets: it seems to be set where the host refuses it, and what was said is remembered where 0 is told.
     fn remember<T: Tracee>(&mut self, t: &mut T, change: Change) -> Result<(), NoMemory>
         ensures exits { OnOk result ((self.new, T.stopped t.new) ≡ remember change self.old (T.stopped t.old)) }
-        ensures edits { IsEdited (T.stopped t.old) (T.stopped t.new) }
-        ensures rest { T.around t.new ≡ T.around t.old }
+        ensures edits { OnlyEdits T.stopped T.around t.old t.new }
     {
+        // For the proof alone: the process lives.
         let _pid = t.pid();
         let target = t.target();
         forgive(t, true);
@@ -128,9 +125,9 @@ impl Faker {
     /// The owner in the structure `stat` that a call has written, if it did.
     fn show_owner<T: Tracee>(&self, t: &mut T, at: u64) -> Result<(), NoMemory>
         ensures shows { OnOk result ((self.now, T.stopped t.new) ≡ after_due self.now (T.stopped t.old) (Some (ShowsOwner at))) }
-        ensures edits { IsEdited (T.stopped t.old) (T.stopped t.new) }
-        ensures rest { T.around t.new ≡ T.around t.old }
+        ensures edits { OnlyEdits T.stopped T.around t.old t.new }
     {
+        // For the proof alone: the process lives.
         let _pid = t.pid();
         if has_answered_zero(t) {
             show_owner(t, self.user, &self.identities, at)
@@ -142,8 +139,7 @@ impl Faker {
     /// The identity of a process that begins a new program, if it does.
     fn begin_program<T: Tracee>(&mut self, t: &mut T) -> Result<(), NoMemory>
         ensures begins { OnOk result ((self.new, T.stopped t.new) ≡ after_due self.old (T.stopped t.old) (Some BeginsProgram)) }
-        ensures edits { IsEdited (T.stopped t.old) (T.stopped t.new) }
-        ensures rest { T.around t.new ≡ T.around t.old }
+        ensures edits { OnlyEdits T.stopped T.around t.old t.new }
     {
         let pid = t.pid();
         if !has_answered_zero(t) {

@@ -2,18 +2,16 @@
 ghost use Rattle.std.specs.Prelude.{◌≡◌, ◌+◌, ◌*◌, ◌<◌, ◌≤◌, [], IfOk, length};
 ghost use Rattle.pt_ident.specs.kr_calls.Expansion.{bytes_with_ends};
 ghost use Rattle.kr_exec.specs.Lists.{at_least_one, most_texts};
-ghost use Rattle.pt_faker.specs.Stopping.{IsEdited};
+ghost use Rattle.pt_faker.specs.Stopping.{OnlyEdits};
 ghost use Rattle.pt_faker.specs.Reading.{addresses_behind, list_at, lists_at, texts_from, texts_read, Reads};
 
 use crate::Tracee;
-use crate::text::{MOST_BYTES, read_address, read_text_within};
+use crate::text::{read_address, read_text_within};
+use pr_base::limits::{MOST_BYTES, MOST_TEXTS};
 use pr_base::{Bytes, Errno, NoMemory, Texts};
 use pt_ident::below::kr_calls::CallFault;
 use pt_ident::below::rv_mem::Use;
 use std::alloc::Global;
-
-/// The most texts of a list.
-const MOST_TEXTS: usize = 4096;
 
 /// How far the addresses of a list lie apart.
 const ADDRESS_SIZE: u64 = 8;
@@ -46,9 +44,9 @@ pub fn read_lists<T: Tracee>(
 ) -> Result<Handed, CallFault>
     ensures read { Reads result (lists_at args env) (T.stopped t.old) (T.stopped t.new) }
     ensures few { IfOk result (λ handed. length handed.args ≤ 4096) }
-    ensures edits { IsEdited (T.stopped t.old) (T.stopped t.new) }
-    ensures rest { T.around t.new ≡ T.around t.old }
+    ensures edits { OnlyEdits T.stopped T.around t.old t.new }
 {
+    // For the proof alone: the process lives.
     let _pid = t.pid();
     let args = match read_list(alloc, t, args, MOST_BYTES) {
         Ok(args) => args,
@@ -89,9 +87,9 @@ fn read_list<T: Tracee>(alloc: Global, t: &mut T, at: u64, room: usize) -> Resul
     ensures read { Reads (texts_read result) (list_at at room) (T.stopped t.old) (T.stopped t.new) }
     ensures room { IfOk result (λ list. list.room + bytes_with_ends list.texts ≡ room) }
     ensures few { IfOk result (λ list. length list.texts ≤ 4096) }
-    ensures edits { IsEdited (T.stopped t.old) (T.stopped t.new) }
-    ensures rest { T.around t.new ≡ T.around t.old }
+    ensures edits { OnlyEdits T.stopped T.around t.old t.new }
 {
+    // For the proof alone: the process lives.
     let _pid = t.pid();
     if at == 0 {
         return Ok(List {
@@ -102,14 +100,14 @@ fn read_list<T: Tracee>(alloc: Global, t: &mut T, at: u64, room: usize) -> Resul
     read_texts(alloc, t, at, room)
 }
 
-/// The same for a list whose addresses begin at one.
+/// Reads the texts of a list whose addresses begin at one.
 fn read_texts<T: Tracee>(alloc: Global, t: &mut T, at: u64, room: usize) -> Result<List, CallFault>
     ensures read { Reads (texts_read result) (texts_from most_texts at room []) (T.stopped t.old) (T.stopped t.new) }
     ensures room { IfOk result (λ list. list.room + bytes_with_ends list.texts ≡ room) }
     ensures few { IfOk result (λ list. length list.texts ≤ 4096) }
-    ensures edits { IsEdited (T.stopped t.old) (T.stopped t.new) }
-    ensures rest { T.around t.new ≡ T.around t.old }
+    ensures edits { OnlyEdits T.stopped T.around t.old t.new }
 {
+    // For the proof alone: the process lives.
     let _pid = t.pid();
     let mut texts = Texts::new(alloc);
     let mut room = room;
@@ -140,9 +138,9 @@ fn read_texts<T: Tracee>(alloc: Global, t: &mut T, at: u64, room: usize) -> Resu
 fn end_of<T: Tracee>(t: &mut T, at: u64, texts: Texts, room: usize) -> Result<List, CallFault>
     ensures read { Reads (texts_read result) (texts_from 0 at room texts) (T.stopped t.old) (T.stopped t.new) }
     ensures room { IfOk result (λ list. list ≡ record { texts = texts; room = room }) }
-    ensures edits { IsEdited (T.stopped t.old) (T.stopped t.new) }
-    ensures rest { T.around t.new ≡ T.around t.old }
+    ensures edits { OnlyEdits T.stopped T.around t.old t.new }
 {
+    // For the proof alone: the process lives.
     let _pid = t.pid();
     match read_address(t, at) {
         Ok(0) => Ok(List { texts, room }),
@@ -161,9 +159,9 @@ pub fn addresses_behind<T: Tracee>(
 ) -> Result<Bytes, CallFault>
     requires { count ≤ 4096 }
     ensures read { Reads result (addresses_behind at count) (T.stopped t.old) (T.stopped t.new) }
-    ensures edits { IsEdited (T.stopped t.old) (T.stopped t.new) }
-    ensures rest { T.around t.new ≡ T.around t.old }
+    ensures edits { OnlyEdits T.stopped T.around t.old t.new }
 {
+    // For the proof alone: the process lives.
     let _pid = t.pid();
     let Ok(mut bytes) = zeros(alloc, count) else {
         return Err(CallFault::NoMemory);

@@ -2,7 +2,7 @@
 ghost use Rattle.std.specs.Prelude.{◌≡◌, ◌≤◌, ◌&&◌, IfOk, IsTrue, OnOk, length};
 ghost use Rattle.pt_ident.specs.rv_mem.Pages.{allows_all};
 ghost use Rattle.kr_stops.specs.Editing.{after_poke, memory_at};
-ghost use Rattle.kr_stops.specs.Stopped.{IsEdited};
+ghost use Rattle.pt_faker.specs.Stopping.{OnlyEdits};
 ghost use Rattle.pt_ident.specs.Identity.{Identity, TakesGroups, TellsGroups, most_groups, numbers_of, on_memory, refusal, tell_numbers};
 ghost use Rattle.pt_faker.specs.Carrying.{CarriesOut, on_its_memory};
 ghost use Rattle.pt_faker.specs.Faking.{show_owner};
@@ -18,9 +18,9 @@ use std::alloc::Global;
 pub fn write<T: Tracee>(t: &mut T, at: u64, bytes: &[u8]) -> Result<(), NoMemory>
     requires may { IsTrue (allows_all (memory_at (T.stopped t.old)).pages at (length bytes.now) Use.Write) }
     ensures after { OnOk result (T.stopped t.new ≡ after_poke at bytes.now (T.stopped t.old)) }
-    ensures edits { IsEdited (T.stopped t.old) (T.stopped t.new) }
-    ensures rest { T.around t.new ≡ T.around t.old }
+    ensures edits { OnlyEdits T.stopped T.around t.old t.new }
 {
+    // For the proof alone: the process lives.
     let _pid = t.pid();
     match t.poke(at, bytes) {
         Ok(()) => Ok(()),
@@ -37,9 +37,9 @@ pub fn show_owner<T: Tracee>(
     at: u64,
 ) -> Result<(), NoMemory>
     ensures shows { OnOk result (T.stopped t.new ≡ on_its_memory (show_owner user identities.now at) (T.stopped t.old)) }
-    ensures edits { IsEdited (T.stopped t.old) (T.stopped t.new) }
-    ensures rest { T.around t.new ≡ T.around t.old }
+    ensures edits { OnlyEdits T.stopped T.around t.old t.new }
 {
+    // For the proof alone: the process lives.
     let _pid = t.pid();
     let mut bytes = [0; 128];
     match t.peek(at, &mut bytes, Use::Write) {
@@ -72,9 +72,9 @@ pub fn tell_groups<T: Tracee>(
 ) -> Result<i64, NoMemory>
     requires few { length groups.now ≤ most_groups }
     ensures tells { IfOk result (λ answer. (i : Identity) → i.groups ≡ groups.now → CarriesOut (on_memory i (TellsGroups at)) (record { answer = answer; identity = i }) (T.stopped t.old) (T.stopped t.new)) }
-    ensures edits { IsEdited (T.stopped t.old) (T.stopped t.new) }
-    ensures rest { T.around t.new ≡ T.around t.old }
+    ensures edits { OnlyEdits T.stopped T.around t.old t.new }
 {
+    // For the proof alone: the process lives.
     let _pid = t.pid();
     let bytes = group_bytes(alloc, groups)?;
     if !t.can(at, bytes.len() as u64, Use::Write) {
@@ -100,9 +100,9 @@ pub fn tell_numbers<T: Tracee>(
     saved: u64,
 ) -> Result<i64, NoMemory>
     ensures tells { IfOk result (λ answer. (i : Identity) → CarriesOut (tell_numbers i (numbers_of numbers) real effective saved) (record { answer = answer; identity = i }) (T.stopped t.old) (T.stopped t.new)) }
-    ensures edits { IsEdited (T.stopped t.old) (T.stopped t.new) }
-    ensures rest { T.around t.new ≡ T.around t.old }
+    ensures edits { OnlyEdits T.stopped T.around t.old t.new }
 {
+    // For the proof alone: the process lives.
     let _pid = t.pid();
     let first = t.can(real, 4, Use::Write);
     let second = t.can(effective, 4, Use::Write);
@@ -128,9 +128,9 @@ pub fn take_groups<T: Tracee>(
 ) -> Result<i64, NoMemory>
     requires few { count ≤ most_groups }
     ensures tells { IfOk result (λ answer. CarriesOut (on_memory ids.old (TakesGroups count at)) (record { answer = answer; identity = ids.new }) (T.stopped t.old) (T.stopped t.new)) }
-    ensures edits { IsEdited (T.stopped t.old) (T.stopped t.new) }
-    ensures rest { T.around t.new ≡ T.around t.old }
+    ensures edits { OnlyEdits T.stopped T.around t.old t.new }
 {
+    // For the proof alone: the process lives.
     let _pid = t.pid();
     let mut bytes = vec![in alloc; 0; 4 * count as usize]?;
     match t.peek(at, bytes.as_mut_slice(), Use::Read) {

@@ -2,7 +2,7 @@
 ghost use Rattle.std.specs.Prelude.{◌≡◌, ◌==◌, ◌&&◌};
 ghost use Rattle.pr_base.specs.declared.errno.Errno.TheVariants.{EPERM};
 ghost use Rattle.kr_stops.specs.Editing.{register_at};
-ghost use Rattle.kr_stops.specs.Stopped.{IsEdited};
+ghost use Rattle.pt_faker.specs.Stopping.{OnlyEdits};
 ghost use Rattle.pt_ident.specs.Identity.{refusal};
 ghost use Rattle.pt_faker.specs.Faking.{forgiven, has_answered_zero, no_longer_called, told, word_of};
 
@@ -26,9 +26,9 @@ const NO_CALL: u64 = 0xffff_ffff_ffff_ffff;
 pub fn take_number<T: Tracee>(t: &mut T) -> u64
     ensures number { result ≡ register_at (T.stopped t.old) 17 }
     ensures taken { T.stopped t.new ≡ no_longer_called (T.stopped t.old) }
-    ensures edits { IsEdited (T.stopped t.old) (T.stopped t.new) }
-    ensures rest { T.around t.new ≡ T.around t.old }
+    ensures edits { OnlyEdits T.stopped T.around t.old t.new }
 {
+    // For the proof alone: the process lives.
     let _pid = t.pid();
     let number = t.reg(NUMBER);
     t.set_reg(NUMBER, NO_CALL);
@@ -38,9 +38,9 @@ pub fn take_number<T: Tracee>(t: &mut T) -> u64
 /// Gives the number of a call back, and tells an answer.
 pub fn tell<T: Tracee>(t: &mut T, number: u64, answer: i64)
     ensures tells { T.stopped t.new ≡ told number answer (T.stopped t.old) }
-    ensures edits { IsEdited (T.stopped t.old) (T.stopped t.new) }
-    ensures rest { T.around t.new ≡ T.around t.old }
+    ensures edits { OnlyEdits T.stopped T.around t.old t.new }
 {
+    // For the proof alone: the process lives.
     let _pid = t.pid();
     t.set_reg(NUMBER, number);
     t.set_reg(ANSWER, answer.cast_unsigned());
@@ -49,9 +49,9 @@ pub fn tell<T: Tracee>(t: &mut T, number: u64, answer: i64)
 /// An answer that is an error of permission becomes 0, where it may.
 pub fn forgive<T: Tracee>(t: &mut T, may: bool)
     ensures forgives { T.stopped t.new ≡ forgiven may (T.stopped t.old) }
-    ensures edits { IsEdited (T.stopped t.old) (T.stopped t.new) }
-    ensures rest { T.around t.new ≡ T.around t.old }
+    ensures edits { OnlyEdits T.stopped T.around t.old t.new }
 {
+    // For the proof alone: the process lives.
     let _pid = t.pid();
     if is_forgiven(may, t.reg(ANSWER)) {
         t.set_reg(ANSWER, 0);

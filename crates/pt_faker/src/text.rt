@@ -1,25 +1,23 @@
 //! Texts in the memory of a stopped process.
 ghost use Rattle.std.specs.Prelude.{◌≡◌, ◌<◌, IfOk, length};
 ghost use Rattle.kr_exec.specs.Lists.{address_at};
-ghost use Rattle.pt_faker.specs.Stopping.{IsEdited};
+ghost use Rattle.pt_faker.specs.Stopping.{OnlyEdits};
 ghost use Rattle.pt_faker.specs.Carrying.{CarriesOut};
 ghost use Rattle.pt_faker.specs.Reading.{byte_at, text_at, text_within, Reads};
 
 use crate::Tracee;
+use pr_base::limits::MOST_BYTES;
 use pr_base::{Bytes, Errno};
 use pt_ident::below::kr_calls::CallFault;
 use pt_ident::below::rv_mem::Use;
 use std::alloc::Global;
 
-/// How many bytes both lists may have, with an end for each text.
-pub(crate) const MOST_BYTES: usize = 131_072;
-
 /// The address of a text: EFAULT where one of its eight bytes can't be read.
 pub(crate) fn read_address<T: Tracee>(t: &mut T, at: u64) -> Result<u64, Errno>
     ensures read { CarriesOut (address_at at) result (T.stopped t.old) (T.stopped t.new) }
-    ensures edits { IsEdited (T.stopped t.old) (T.stopped t.new) }
-    ensures rest { T.around t.new ≡ T.around t.old }
+    ensures edits { OnlyEdits T.stopped T.around t.old t.new }
 {
+    // For the proof alone: the process lives.
     let _pid = t.pid();
     let mut bytes = [0; 8];
     match t.peek(at, &mut bytes, Use::Read) {
@@ -31,9 +29,9 @@ pub(crate) fn read_address<T: Tracee>(t: &mut T, at: u64) -> Result<u64, Errno>
 /// A byte of a text: EFAULT where it can't be read.
 fn read_byte<T: Tracee>(t: &mut T, at: u64) -> Result<u8, Errno>
     ensures read { CarriesOut (byte_at at) result (T.stopped t.old) (T.stopped t.new) }
-    ensures edits { IsEdited (T.stopped t.old) (T.stopped t.new) }
-    ensures rest { T.around t.new ≡ T.around t.old }
+    ensures edits { OnlyEdits T.stopped T.around t.old t.new }
 {
+    // For the proof alone: the process lives.
     let _pid = t.pid();
     let mut bytes = [0; 1];
     match t.peek(at, &mut bytes, Use::Read) {
@@ -46,9 +44,9 @@ fn read_byte<T: Tracee>(t: &mut T, at: u64) -> Result<u8, Errno>
 /// memory the process may only be dropped.
 fn read_text<T: Tracee>(alloc: Global, t: &mut T, at: u64) -> Result<Bytes, CallFault>
     ensures read { Reads result (text_at at) (T.stopped t.old) (T.stopped t.new) }
-    ensures edits { IsEdited (T.stopped t.old) (T.stopped t.new) }
-    ensures rest { T.around t.new ≡ T.around t.old }
+    ensures edits { OnlyEdits T.stopped T.around t.old t.new }
 {
+    // For the proof alone: the process lives.
     let _pid = t.pid();
     let mut text = Bytes::new(alloc);
     let mut next = at;
@@ -78,9 +76,9 @@ pub(crate) fn read_text_within<T: Tracee>(
 ) -> Result<Bytes, CallFault>
     ensures read { Reads result (text_within room at) (T.stopped t.old) (T.stopped t.new) }
     ensures within { IfOk result (λ text. length text < room) }
-    ensures edits { IsEdited (T.stopped t.old) (T.stopped t.new) }
-    ensures rest { T.around t.new ≡ T.around t.old }
+    ensures edits { OnlyEdits T.stopped T.around t.old t.new }
 {
+    // For the proof alone: the process lives.
     let _pid = t.pid();
     match read_text(alloc, t, at) {
         Ok(text) if text.len() < room => Ok(text),

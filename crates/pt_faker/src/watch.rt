@@ -28,6 +28,7 @@ impl Stops for Watch {
     ghost forgets = { λ x pid y. y ≡ gone x pid };
 
     fn entry<T: Tracee>(&mut self, t: &mut T) -> Result<(), NoMemory> {
+        // For the proof alone: the process lives.
         let _pid = t.pid();
         match self {
             Watch::Nobody => Ok(()),
@@ -36,6 +37,7 @@ impl Stops for Watch {
     }
 
     fn exit<T: Tracee>(&mut self, t: &mut T) -> Result<(), NoMemory> {
+        // For the proof alone: the process lives.
         let _pid = t.pid();
         match self {
             Watch::Nobody => Ok(()),

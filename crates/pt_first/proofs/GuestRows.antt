@@ -2,7 +2,7 @@
 -- `/g/shut` one that may not; `/bin/run` and `/mnt/tool` are programs.
 use Rattle.std.proofs.Common.{◌≡◌, ℕ, List, [], ◌∷◌, None, Some, Result, Ok, Err, refl}
 use Rattle.std.specs.FinMap as map
-use Rattle.std.specs.Prelude.{Bool, false, codes, if◌then◌else◌}
+use Rattle.std.specs.Prelude.{Bool, true, false, codes, if◌then◌else◌}
 use Rattle.std.specs.List.{list_any}
 use Rattle.std.specs.Str.{bytes_eq}
 use Rattle.pr_base.specs.Peeks.{Peeked}
@@ -48,6 +48,7 @@ told = record {
   kind = kind_at;
   link_text = λ host. Err EINVAL;
   head = λ host n. bytes_at host;
+  steady = λ host. true;
   base_kind = λ pid fd. base.Closed;
   base_name = λ pid fd. None;
   cwd_name = λ pid. None;

@@ -1,6 +1,6 @@
 -- What a tracer is told before a process lives: what walks of the host's own view find then, where the process directory has no names and
 -- a last link isn't followed.
-use Rattle.std.specs.Prelude.{ℕ, List, [], Option, None, Result, Err}
+use Rattle.std.specs.Prelude.{ℕ, Bool, List, [], Option, None, Result, Err}
 use Rattle.pr_base.specs.Peeks.{Peeked}
 use Rattle.pr_base.specs.declared.errno.Errno.{Errno}
 use Rattle.pr_base.specs.declared.errno.Errno.TheVariants.{EINVAL}
@@ -14,8 +14,8 @@ use Rattle.kr_tree.specs.Tree.{Tree, body}
 use Rattle.kr_view.specs.Component.{seen_at}
 use Rattle.kr_view.specs.HostReach.{host_place}
 use Rattle.kr_view.specs.View.{plain, root_place}
-use Rattle.kr_view.specs.Walk.{PlaceTarget, place_walk}
-use Rattle.kr_first.specs.kr_model.Peeks.{body_text, head_at, kind_along, kind_seen, read_of}
+use Rattle.kr_view.specs.Walk.{PlaceTarget, PlaceTrail, place_walk}
+use Rattle.kr_first.specs.kr_model.Peeks.{body_text, head_at, kind_along, kind_seen, read_of, steady_along}
 use Rattle.kr_first.specs.Starting.{around}
 
 -- a tree, in the name of a user
@@ -29,9 +29,17 @@ link_text_at tree (Node i) = body_text (body tree i)
 link_text_at tree (Proc i at) = Err EINVAL
 
 module _ (tree : Tree) (user : User) where
-  -- where the plain kernel's walk along a host path ends
+  -- the plain kernel's walk along a host path
+  abbrev pub host_walk : List ℕ → PlaceTrail
+  host_walk path = place_walk (around plain tree user) LookLink (root_place plain) path
+
+  -- where it ends
   abbrev pub answer_along : List ℕ → Result PlaceTarget Errno
-  answer_along path = (place_walk (around plain tree user) LookLink (root_place plain) path).answer
+  answer_along path = (host_walk path).answer
+
+  -- whether it looks up no name in the process directory
+  abbrev pub is_steady_path : List ℕ → Bool
+  is_steady_path path = steady_along (around plain tree user) LookLink path
 
   abbrev pub kind_at : Host → Result PeekKind Errno
   kind_at x = kind_seen (seen_at (around plain tree user) (host_place x) x)
@@ -42,6 +50,7 @@ module _ (tree : Tree) (user : User) where
     kind = λ path. kind_along (around plain tree user) path;
     link_text = λ path. read_of (link_text_at tree) (answer_along path);
     head = λ path n. read_of (head_at tree user n) (answer_along path);
+    steady = λ path. is_steady_path path;
     base_kind = λ pid fd. base_kind.Closed;
     base_name = λ pid fd. None;
     cwd_name = λ pid. None;

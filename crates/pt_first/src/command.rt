@@ -3,6 +3,7 @@ ghost use Rattle.std.specs.Prelude.{◌≡◌, IfOk, map};
 ghost use Rattle.pt_bind.specs.Binding.{IsWritten};
 ghost use Rattle.pt_canon.specs.Canon.{texts_by};
 ghost use Rattle.pt_first.specs.GuestStart.{chosen, is_there, searched};
+ghost use Rattle.pt_canon.specs.Leaving.{OnlyPeeks};
 
 use pr_base::{Bytes, NoMemory, Peeks, Texts, is_walked};
 use pr_words::{candidate, directories, has_slash, path_of};
@@ -23,8 +24,7 @@ fn is_there<K: Peeks>(
     requires { IsWritten working.now }
     ensures there { IfOk result (λ there. there ≡ is_there (texts_by walker.old (K.peeked kernel.old) tags.now) working.now path.now) }
     ensures walker { walker.new ≡ walker.old }
-    ensures same { K.peeked kernel.new ≡ K.peeked kernel.old }
-    ensures rest { K.kept kernel.new ≡ K.kept kernel.old }
+    ensures kernel { OnlyPeeks K.peeked K.kept kernel.old kernel.new }
 {
     if !is_walked(path) {
         return Ok(false);
@@ -50,8 +50,7 @@ fn search<K: Peeks>(
     requires { IsWritten working.now }
     ensures path { IfOk result (λ path. path ≡ searched (texts_by walker.old (K.peeked kernel.old) tags.now) working.now word.now (map (λ dir. dir.now) dirs.now)) }
     ensures walker { walker.new ≡ walker.old }
-    ensures same { K.peeked kernel.new ≡ K.peeked kernel.old }
-    ensures rest { K.kept kernel.new ≡ K.kept kernel.old }
+    ensures kernel { OnlyPeeks K.peeked K.kept kernel.old kernel.new }
 {
     let Some((dir, others)) = dirs.split_first() else {
         return Ok(None);
@@ -76,8 +75,7 @@ pub(crate) fn choose<K: Peeks>(
     requires { IsWritten working.now }
     ensures path { IfOk result (λ path. path ≡ chosen (texts_by walker.old (K.peeked kernel.old) tags.now) working.now env.now word.now) }
     ensures walker { walker.new ≡ walker.old }
-    ensures same { K.peeked kernel.new ≡ K.peeked kernel.old }
-    ensures rest { K.kept kernel.new ≡ K.kept kernel.old }
+    ensures kernel { OnlyPeeks K.peeked K.kept kernel.old kernel.new }
 {
     if has_slash(word) {
         return Ok(Some(Bytes::copy(alloc, word)?));

@@ -4,6 +4,7 @@ ghost use Rattle.pt_bind.specs.Binding.{IsWritten};
 ghost use Rattle.pt_canon.specs.Canon.{IsAnswer, texts_by};
 ghost use Rattle.pt_script.specs.Programs.{canon_from};
 ghost use Rattle.pt_first.specs.GuestStart.{directory_at, working_directory};
+ghost use Rattle.pt_canon.specs.Leaving.{OnlyPeeks};
 
 use pr_base::{Bytes, NoMemory, Peeks, WalkMode, is_walked};
 use pt_bind::Tags;
@@ -25,8 +26,7 @@ pub(crate) fn canon_from<K: Peeks>(
     ensures answer { IsAnswer (canon_from (texts_by walker.old (K.peeked kernel.old) tags.now) path.now base.now) result }
     ensures written { IfOk result (λ canon. IsWritten canon.guest) }
     ensures walker { walker.new ≡ walker.old }
-    ensures same { K.peeked kernel.new ≡ K.peeked kernel.old }
-    ensures rest { K.kept kernel.new ≡ K.kept kernel.old }
+    ensures kernel { OnlyPeeks K.peeked K.kept kernel.old kernel.new }
 {
     walker.canon(kernel, tags, base, path, WalkMode::Look)
 }
@@ -41,8 +41,7 @@ fn directory_at<K: Peeks>(
     ensures answer { IsAnswer (directory_at (texts_by walker.old (K.peeked kernel.old) tags.now) path.now) result }
     ensures written { IfOk result (λ canon. IsWritten canon.guest) }
     ensures walker { walker.new ≡ walker.old }
-    ensures same { K.peeked kernel.new ≡ K.peeked kernel.old }
-    ensures rest { K.kept kernel.new ≡ K.kept kernel.old }
+    ensures kernel { OnlyPeeks K.peeked K.kept kernel.old kernel.new }
 {
     let found = canon_from(kernel, walker, tags, path, ROOT)?;
     canon_from(kernel, walker, tags, b".", found.guest.as_slice())
@@ -60,8 +59,7 @@ pub(crate) fn working_directory<K: Peeks>(
     ensures text { IfOk result (λ text. text ≡ working_directory (texts_by walker.old (K.peeked kernel.old) tags.now) path.now) }
     ensures written { IfOk result IsWritten }
     ensures walker { walker.new ≡ walker.old }
-    ensures same { K.peeked kernel.new ≡ K.peeked kernel.old }
-    ensures rest { K.kept kernel.new ≡ K.kept kernel.old }
+    ensures kernel { OnlyPeeks K.peeked K.kept kernel.old kernel.new }
 {
     if !is_walked(path) {
         return Bytes::copy(alloc, ROOT);

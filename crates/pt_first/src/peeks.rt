@@ -1,14 +1,19 @@
 //! What a tracer is told before a process lives.
-ghost use Rattle.std.specs.Prelude.{◌≡◌, ℕ, take};
+ghost use Rattle.std.specs.Prelude.{◌≡◌, ℕ, take, IfOk};
 ghost use Rattle.std.specs.Option.{option_map};
 ghost use Rattle.pr_base.specs.Peeks.{IsPeeked};
+ghost use Rattle.pr_base.specs.declared.path.WalkMode.TheVariants.{LookLink};
 ghost use Rattle.kr_tree.specs.declared.place.Host.TheVariants.{Node};
-ghost use Rattle.kr_view.specs.Answers.{IsAnswer};
+ghost use Rattle.kr_view.specs.Answers.{IsAnswer, IsReached};
+ghost use Rattle.kr_view.specs.Reach.{nothing};
+ghost use Rattle.kr_view.specs.View.{plain};
 ghost use Rattle.kr_view.specs.declared.view.HostMount.{HostMount};
+ghost use Rattle.kr_first.specs.Starting.{around};
 ghost use Rattle.kr_first.specs.kr_model.Peeks.{head_at};
+ghost use Rattle.kr_hostview.specs.NoJumps.{no-jump-along};
 ghost use Rattle.kr_hostview.specs.OnHost.{number};
 ghost use Rattle.kr_hostview.specs.Peeking.{IsFound};
-ghost use Rattle.pt_first.specs.FirstPeeks.{answer_along, first_peeked, kind_at, link_text_at};
+ghost use Rattle.pt_first.specs.FirstPeeks.{answer_along, first_peeked, host_walk, is_steady_path, kind_at, link_text_at};
 
 use kr_tree::{Host, Ino, Kind, ProcAt, Right, Tree, User};
 use kr_view::{HostMount, NoProcs, Places, Plain, Reach, Target, WalkFault};
@@ -72,6 +77,10 @@ impl<'a> Peeks for FirstPeeks<'a> {
         head(self.alloc, self.tree, self.user, host, n)
     }
 
+    fn steady(&mut self, host: &[u8]) -> Result<bool, NoMemory> {
+        steady(self.alloc, self.tree, self.user, host)
+    }
+
     fn base_kind(&mut self, _pid: u32, _fd: u32) -> BaseKind {
         BaseKind::Closed
     }
@@ -89,6 +98,8 @@ impl<'a> Peeks for FirstPeeks<'a> {
     }
 
     ghost names_are_texts = { λ p. record { base = λ pid fd. tt; cwd = λ pid. tt; exe = λ pid. tt } };
+
+    ghost steady_is_no_jump = { λ p. no-jump-along (around plain p.tree p.user) };
 }
 
 /// The kind of what a host path leads to. It fails as the walk there does.
@@ -121,11 +132,24 @@ fn head(alloc: Global, tree: &Tree, user: User, host: &[u8], n: u32) -> Result<B
     }
 }
 
+/// Whether the walk along a host path looks up no name in the process directory, wherever it ends.
+fn steady(alloc: Global, tree: &Tree, user: User, host: &[u8]) -> Result<bool, NoMemory>
+    ensures { IfOk result (λ steady. steady ≡ is_steady_path tree.now user host.now) }
+{
+    let mut reach = nowhere();
+    match walked(alloc, tree, user, host, &mut reach) {
+        Ok(_target) => Ok(!reach.met_proc),
+        Err(WalkFault::Err(_errno)) => Ok(!reach.met_proc),
+        Err(WalkFault::NoMemory) => Err(NoMemory),
+    }
+}
+
 /// What a host path leads to, where a last link isn't followed.
 fn find(alloc: Global, tree: &Tree, user: User, host: &[u8]) -> Result<Option<Host>, PeekFault>
     ensures { IsFound (answer_along tree.now user host.now) result }
 {
-    match walked(alloc, tree, user, host) {
+    let mut reach = nowhere();
+    match walked(alloc, tree, user, host, &mut reach) {
         Ok(target) => Ok(found_in(target)),
         Err(fault) => Err(fault_of(fault)),
     }
@@ -141,21 +165,30 @@ fn found_in(target: Target<HostMount>) -> Option<Host>
     }
 }
 
-/// Where the walk along a host path ends, if a last link isn't followed. What it meets isn't told.
+/// Nothing was reached yet.
+fn nowhere() -> Reach
+    ensures { result ≡ nothing }
+{
+    Reach {
+        longest: 0,
+        met_proc: false,
+    }
+}
+
+/// Where the walk along a host path ends, if a last link isn't followed, and what it reaches.
 fn walked(
     alloc: Global,
     tree: &Tree,
     user: User,
     host: &[u8],
+    reach: &mut Reach,
 ) -> Result<Target<HostMount>, WalkFault>
-    ensures { IsAnswer number (answer_along tree.now user host.now) result }
+    ensures answer { IsAnswer number (answer_along tree.now user host.now) result }
+    ensures reach { let host_view = around plain tree.now user in
+        IsReached host_view LookLink (host_walk tree.now user host.now) reach.old reach.new result }
 {
     let places = Plain::new();
     let procs = NoProcs::new();
-    let mut reach = Reach {
-        longest: 0,
-        met_proc: false,
-    };
     resolve(
         alloc,
         &places,
@@ -166,7 +199,7 @@ fn walked(
         places.root(),
         host,
         WalkMode::LookLink,
-        &mut reach,
+        reach,
     )
 }
 

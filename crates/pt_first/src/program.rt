@@ -6,8 +6,10 @@ ghost use Rattle.pt_script.specs.kr_calls.Expansion.{bytes_with_ends};
 ghost use Rattle.kr_first.specs.kr_exec.Exec.{are_too_big};
 ghost use Rattle.kr_first.specs.Starting.{path_errno};
 ghost use Rattle.pt_first.specs.GuestStart.{base_of, handed, if_short, run_from, run_with};
+ghost use Rattle.pt_canon.specs.Leaving.{OnlyPeeks};
 
 use crate::directory::{ROOT, canon_from};
+use pr_base::limits::{MOST_BYTES, MOST_TEXTS, PATH_MAX};
 use pr_base::{Bytes, Errno, Peeks, Texts, components, is_walked};
 use pt_bind::Tags;
 use pt_canon::{Canon, WalkErr, Walker};
@@ -15,13 +17,7 @@ use pt_script::{Expanded, bytes_within, expand_from, is_too_big, program_from};
 use std::alloc::Global;
 
 /// How many bytes a path has at most.
-const MOST_BYTES_OF_PATHS: usize = 4095;
-
-/// The most texts of an environment.
-const MOST_TEXTS: usize = 4096;
-
-/// The most bytes of the arguments and of the environment, with an end for each text.
-const MOST_BYTES: usize = 131_072;
+const MOST_BYTES_OF_PATHS: usize = PATH_MAX - 1;
 
 /// Why a path isn't walked: ENOENT of an empty one, and ENAMETOOLONG of another.
 fn path_errno(path: &[u8]) -> Errno
@@ -58,8 +54,7 @@ fn handed<K: Peeks>(
     requires { IsWritten working.now }
     ensures answer { IsAnswer (handed (texts_by walker.old (K.peeked kernel.old) tags.now) working.now path.now) result }
     ensures walker { walker.new ≡ walker.old }
-    ensures same { K.peeked kernel.new ≡ K.peeked kernel.old }
-    ensures rest { K.kept kernel.new ≡ K.kept kernel.old }
+    ensures kernel { OnlyPeeks K.peeked K.kept kernel.old kernel.new }
 {
     let canon = canon_from(kernel, walker, tags, path, base_of(working, path))?;
     if canon.host.len() > MOST_BYTES_OF_PATHS {
@@ -97,8 +92,7 @@ fn run_with<K: Peeks>(
     requires { IsWritten working.now }
     ensures answer { IsAnswer (run_with (texts_by walker.old (K.peeked kernel.old) tags.now) working.now args env.now path.now) result }
     ensures walker { walker.new ≡ walker.old }
-    ensures same { K.peeked kernel.new ≡ K.peeked kernel.old }
-    ensures rest { K.kept kernel.new ≡ K.kept kernel.old }
+    ensures kernel { OnlyPeeks K.peeked K.kept kernel.old kernel.new }
 {
     match env_bytes(&args, env) {
         Some(env_bytes) => expand_from(
@@ -134,8 +128,7 @@ pub(crate) fn run_from<K: Peeks>(
     requires { IsWritten working.now }
     ensures answer { IsAnswer (run_from (texts_by walker.old (K.peeked kernel.old) tags.now) working.now args env.now path.now) result }
     ensures walker { walker.new ≡ walker.old }
-    ensures same { K.peeked kernel.new ≡ K.peeked kernel.old }
-    ensures rest { K.kept kernel.new ≡ K.kept kernel.old }
+    ensures kernel { OnlyPeeks K.peeked K.kept kernel.old kernel.new }
 {
     if !is_walked(path) {
         return Err(WalkErr::Err(path_errno(path)));

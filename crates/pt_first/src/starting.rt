@@ -4,6 +4,7 @@ ghost use Rattle.pt_bind.specs.Binding.{IsWritten, rows_of};
 ghost use Rattle.pt_canon.specs.Canon.{IsAnswer, texts_by};
 ghost use Rattle.pt_first.specs.FirstPeeks.{first_peeked};
 ghost use Rattle.pt_first.specs.GuestStart.{IsBegun, begun, guest_start, tagged};
+ghost use Rattle.pt_canon.specs.Leaving.{OnlyPeeks};
 
 use crate::begun::Begun;
 use crate::command::choose;
@@ -41,8 +42,7 @@ pub fn first_by<K: Peeks>(
 ) -> Result<First, StartFault>
     ensures begins { IsBegun (guest_start (texts_by walker.old (K.peeked kernel.old) tags.old) launch) tags.old tags.new result }
     ensures walker { walker.new ≡ walker.old }
-    ensures same { K.peeked kernel.new ≡ K.peeked kernel.old }
-    ensures rest { K.kept kernel.new ≡ K.kept kernel.old }
+    ensures kernel { OnlyPeeks K.peeked K.kept kernel.old kernel.new }
 {
     match begin(alloc, kernel, walker, tags, launch) {
         Ok(begun) => match note(tags, &begun) {
@@ -89,8 +89,7 @@ fn begin<K: Peeks>(
 ) -> Result<Begun, WalkErr>
     ensures answer { IsAnswer (guest_start (texts_by walker.old (K.peeked kernel.old) tags.now) launch) result }
     ensures walker { walker.new ≡ walker.old }
-    ensures same { K.peeked kernel.new ≡ K.peeked kernel.old }
-    ensures rest { K.kept kernel.new ≡ K.kept kernel.old }
+    ensures kernel { OnlyPeeks K.peeked K.kept kernel.old kernel.new }
 {
     let Launch {
         command,

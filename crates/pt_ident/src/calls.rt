@@ -10,7 +10,7 @@ use kr_calls::Request;
 use pr_base::Errno;
 
 /// What is answered, as far as it is known before the memory of the process is looked at.
-#[derive(Clone, Copy, Debug, PartialEq, Eq)]
+#[derive(Clone, Copy)]
 pub enum IdAnswer {
     /// This number, which is the negated one of an error where the call is refused.
     Value(i64),
@@ -88,7 +88,7 @@ fn keep_user(ids: &mut Ids, set: Result<[u32; 3], Errno>) -> IdAnswer
     }
 }
 
-/// The same of the group.
+/// Keeps the numbers of the group that a call sets, unless it is refused.
 fn keep_group(ids: &mut Ids, set: Result<[u32; 3], Errno>) -> IdAnswer
     ensures answer { result ≡ answer_of (keeps_group ids.old (seen set)) }
     ensures identity { ids.new ≡ identity_of ids.old (keeps_group ids.old (seen set)) }

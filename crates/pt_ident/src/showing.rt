@@ -7,6 +7,7 @@ ghost use Rattle.pt_ident.specs.Showing.{auxiliary_values, field, is_of_tree, sh
 
 use crate::ids::{EFFECTIVE, Ids, REAL};
 use kr_inode::User;
+use pr_base::limits::MODES;
 use pr_base::{field_u32, field_u64};
 use pt_owner::{Owners, Shown};
 
@@ -20,9 +21,6 @@ const MODE_PLACE: usize = 16;
 const UID_PLACE: usize = 24;
 
 const GID_PLACE: usize = 28;
-
-/// How many modes differ in permissions alone. What is above them is the kind of a file.
-const MODES: u32 = 0o10000;
 
 /// Shows in a structure `stat` the host user's uid as `ids.0` and its gid as `ids.1`, and other owners as they are. Where there is something to
 /// be remembered, what was said of a directory, a file or a link of the tree stands over that.

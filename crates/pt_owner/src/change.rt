@@ -1,7 +1,7 @@
 //! What is said of a file's owner and mode, and what is shown of them.
 
 /// What a call says of a file.
-#[derive(Clone, Copy, Debug, PartialEq, Eq)]
+#[derive(Clone, Copy)]
 pub enum Change {
     /// chown(2): its owner and its group. A number of all ones leaves the one that is there.
     Own { uid: u32, gid: u32 },
@@ -10,7 +10,7 @@ pub enum Change {
 }
 
 /// The owner, the group and the mode of a file, with its kind, as stat(2) shows them.
-#[derive(Clone, Copy, Debug, PartialEq, Eq)]
+#[derive(Clone, Copy)]
 pub struct Shown {
     pub uid: u32,
     pub gid: u32,

@@ -3,9 +3,10 @@ ghost use Rattle.std.specs.Prelude.{◌≡◌};
 ghost use Rattle.pt_owner.specs.Owners.{given};
 
 use crate::change::{Change, Shown};
+use pr_base::limits::MODES;
 
 /// What is remembered of one file: each number is given or not.
-#[derive(Clone, Copy, Debug, PartialEq, Eq)]
+#[derive(Clone, Copy)]
 pub struct Entry {
     uid: Option<u32>,
     gid: Option<u32>,
@@ -14,9 +15,6 @@ pub struct Entry {
 
 /// The number that leaves an owner or a group as it is.
 const NO_NUMBER: u32 = 0xffff_ffff;
-
-/// How many modes differ in permissions alone. What is above them is the kind of a file.
-const MODES: u32 = 0o10000;
 
 impl Entry {
     ghost use Rattle.pt_owner.specs.Owners.{over, shown_by, unsaid};

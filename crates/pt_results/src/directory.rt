@@ -2,6 +2,7 @@
 ghost use Rattle.std.specs.Prelude.{◌≡◌, ◌+◌, ◌≤◌, IfOk, length};
 ghost use Rattle.pt_args.specs.pt_canon.Canon.{texts_by};
 ghost use Rattle.pt_results.specs.Answers.{cwd_answer, text_answer};
+ghost use Rattle.pt_args.specs.pt_canon.Leaving.{OnlyPeeks};
 
 use pr_base::{Bytes, Errno, NoMemory, Peeks};
 use pt_args::below::pt_canon::Walker;
@@ -22,8 +23,7 @@ pub fn cwd_answer<K: Peeks>(
     buf: u64,
 ) -> Result<Edit, NoMemory>
     ensures answer { IfOk result (λ edit. edit ≡ cwd_answer (texts_by walker.now (K.peeked kernel.old) tags.now) pid size buf) }
-    ensures same { K.peeked kernel.new ≡ K.peeked kernel.old }
-    ensures rest { K.kept kernel.new ≡ K.kept kernel.old }
+    ensures kernel { OnlyPeeks K.peeked K.kept kernel.old kernel.new }
 {
     match working_text(kernel, walker.table(), tags, pid)? {
         Some(text) => text_answer(alloc, text, size, buf),

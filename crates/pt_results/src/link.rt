@@ -4,6 +4,7 @@ ghost use Rattle.pr_base.specs.Paths.{is_absolute};
 ghost use Rattle.pt_bind.specs.Binding.{IsWritten, names_of};
 ghost use Rattle.pt_args.specs.pt_canon.Canon.{texts_by};
 ghost use Rattle.pt_results.specs.Answers.{jump_answer, lead_answer, link_answer, nowhere_answer, read_answer};
+ghost use Rattle.pt_args.specs.pt_canon.Leaving.{OnlyPeeks};
 
 use crate::numbers::count_of;
 use pr_base::{Bytes, Errno, NoMemory, PeekFault, PeekKind, Peeks, WalkMode, components};
@@ -34,8 +35,7 @@ pub fn link_answer<K: Peeks>(
 ) -> Result<Option<Edit>, NoMemory>
     ensures answer { IfOk result (λ edit. edit ≡ link_answer (texts_by walker.old (K.peeked kernel.old) tags.now) pid request.now) }
     ensures walker { walker.new ≡ walker.old }
-    ensures same { K.peeked kernel.new ≡ K.peeked kernel.old }
-    ensures rest { K.kept kernel.new ≡ K.kept kernel.old }
+    ensures kernel { OnlyPeeks K.peeked K.kept kernel.old kernel.new }
 {
     let Request::Readlinkat { buf, size, .. } = request else {
         return Ok(None);
@@ -69,8 +69,7 @@ fn read_answer<K: Peeks>(
     requires host { IsTrue (is_absolute canon.now.host) }
     ensures answer { IfOk result (λ edit. edit ≡ read_answer (texts_by walker.old (K.peeked kernel.old) tags.now) canon.now room) }
     ensures walker { walker.new ≡ walker.old }
-    ensures same { K.peeked kernel.new ≡ K.peeked kernel.old }
-    ensures rest { K.kept kernel.new ≡ K.kept kernel.old }
+    ensures kernel { OnlyPeeks K.peeked K.kept kernel.old kernel.new }
 {
     match kernel.kind(canon.host.as_slice()) {
         Ok(PeekKind::Jump) => jump_answer(alloc, kernel, walker, tags, canon, room),
@@ -92,8 +91,7 @@ fn jump_answer<K: Peeks>(
     requires host { IsTrue (is_absolute canon.now.host) }
     ensures answer { IfOk result (λ edit. edit ≡ jump_answer (texts_by walker.old (K.peeked kernel.old) tags.now) canon.now room (names_of canon.now.guest)) }
     ensures walker { walker.new ≡ walker.old }
-    ensures same { K.peeked kernel.new ≡ K.peeked kernel.old }
-    ensures rest { K.kept kernel.new ≡ K.kept kernel.old }
+    ensures kernel { OnlyPeeks K.peeked K.kept kernel.old kernel.new }
 {
     let Some((dir, name)) = parted(canon.guest.as_slice()) else {
         return Ok(None);
@@ -127,8 +125,7 @@ fn lead_answer(alloc: Global, text: &[u8], room: Room) -> Result<Edit, NoMemory>
 fn nowhere_answer<K: Peeks>(kernel: &mut K, host: &[u8]) -> Result<Option<Edit>, NoMemory>
     requires { IsTrue (is_absolute host.now) }
     ensures answer { IfOk result (λ edit. edit ≡ nowhere_answer ((K.peeked kernel.old).link_text host.now)) }
-    ensures same { K.peeked kernel.new ≡ K.peeked kernel.old }
-    ensures rest { K.kept kernel.new ≡ K.kept kernel.old }
+    ensures kernel { OnlyPeeks K.peeked K.kept kernel.old kernel.new }
 {
     match kernel.link_text(host) {
         Ok(text) => {

@@ -2,7 +2,7 @@
 -- working directory is the root.
 use Rattle.std.proofs.Common.{◌≡◌, ℕ, List, [], ◌∷◌, None, Some, Result, Ok, Err, refl, ap}
 use Rattle.std.specs.FinMap as map
-use Rattle.std.specs.Prelude.{Bool, codes, if◌then◌else◌}
+use Rattle.std.specs.Prelude.{Bool, true, codes, if◌then◌else◌}
 use Rattle.std.specs.List.{list_any}
 use Rattle.std.specs.Option.{unwrap_or}
 use Rattle.std.specs.Ordering.{nat_cmp}
@@ -56,6 +56,7 @@ told = record {
   kind = kind_at;
   link_text = λ host. Err EINVAL;
   head = λ host n. bytes_at host;
+  steady = λ host. true;
   base_kind = λ pid fd. base.Closed;
   base_name = λ pid fd. None;
   cwd_name = λ pid. Some (codes "/g");

@@ -3,14 +3,9 @@ ghost use Rattle.std.specs.Prelude.{◌≡◌, ◌+◌, ◌≤◌, ◌<◌, ◌�
 ghost use Rattle.std.specs.Option.{SomeIff};
 ghost use Rattle.pt_args.specs.kr_calls.Expansion.{bytes_with_ends, is_too_big, new_args};
 
+use pr_base::limits::{MOST_BYTES, MOST_TEXTS};
 use pr_base::{Bytes, NoMemory, Texts};
 use std::alloc::Global;
-
-/// The most arguments of a program.
-const MOST_TEXTS: usize = 4096;
-
-/// The most bytes of the arguments and of the environment, with an end for each text.
-const MOST_BYTES: usize = 131_072;
 
 /// The arguments of an interpreter: its own path, the argument on the line if there is one, the script's path, and the
 /// old arguments but the first.

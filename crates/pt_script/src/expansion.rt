@@ -6,6 +6,7 @@ ghost use Rattle.pt_args.specs.pt_canon.Canon.{IsAnswer, texts_by};
 ghost use Rattle.pt_args.specs.kr_calls.Expansion.{most_scripts};
 ghost use Rattle.pt_args.specs.kr_calls.Scripts.{BeginsScript};
 ghost use Rattle.pt_script.specs.Expanding.{ends_of, expanded_at, expanded_from, interpreted, shown_result};
+ghost use Rattle.pt_args.specs.pt_canon.Leaving.{OnlyPeeks};
 
 use crate::arguments::{is_too_big, new_args};
 use crate::command::Command;
@@ -21,7 +22,7 @@ use std::alloc::Global;
 const MOST_SCRIPTS: u8 = 5;
 
 /// The program that runs in the end, in place of a path that a guest passed to execve(2).
-#[derive(Debug, Drop)]
+#[derive(Drop)]
 pub struct Expanded {
     /// Its host text.
     pub host: Bytes,
@@ -51,8 +52,7 @@ pub fn expand<K: Peeks>(
 ) -> Result<Expanded, WalkErr>
     ensures answer { IsAnswer (expanded_at (texts_by walker.old (K.peeked kernel.old) tags.now) pid env_bytes path.now args) result }
     ensures walker { walker.new ≡ walker.old }
-    ensures same { K.peeked kernel.new ≡ K.peeked kernel.old }
-    ensures rest { K.kept kernel.new ≡ K.kept kernel.old }
+    ensures kernel { OnlyPeeks K.peeked K.kept kernel.old kernel.new }
 {
     let working = working_text(kernel, walker.table(), tags, pid)?;
     let working = bytes_of(&working);
@@ -69,7 +69,7 @@ fn bytes_of(text: &Option<Bytes>) -> Option<&[u8]>
     }
 }
 
-/// The same from a working directory, by its guest text if it has one.
+/// The program that execve(2) runs in the end, as `expand` finds it, from a working directory, by its guest text if it has one.
 pub fn expand_from<K: Peeks>(
     alloc: Global,
     kernel: &mut K,
@@ -83,8 +83,7 @@ pub fn expand_from<K: Peeks>(
     requires { IfSome (option_copied working) IsWritten }
     ensures answer { IsAnswer (expanded_from (texts_by walker.old (K.peeked kernel.old) tags.now) (option_copied working.entry) env_bytes path.now args) result }
     ensures walker { walker.new ≡ walker.old }
-    ensures same { K.peeked kernel.new ≡ K.peeked kernel.old }
-    ensures rest { K.kept kernel.new ≡ K.kept kernel.old }
+    ensures kernel { OnlyPeeks K.peeked K.kept kernel.old kernel.new }
 {
     let program = program_from(alloc, kernel, walker, tags, working, path)?;
     let path = Bytes::copy(alloc, path)?;
@@ -110,8 +109,7 @@ fn end_of<K: Peeks>(
     requires short { length command.program.head ≤ 256 }
     ensures answer { IsAnswer (shown_result (ends_of (texts_by walker.old (K.peeked kernel.old) tags.now) (option_copied working.entry) env_bytes most_scripts command)) result }
     ensures walker { walker.new ≡ walker.old }
-    ensures same { K.peeked kernel.new ≡ K.peeked kernel.old }
-    ensures rest { K.kept kernel.new ≡ K.kept kernel.old }
+    ensures kernel { OnlyPeeks K.peeked K.kept kernel.old kernel.new }
 {
     let mut command = command;
     let mut scripts = 0;
@@ -156,8 +154,7 @@ fn interpreted<K: Peeks>(
     ensures answer { IsAnswer (interpreted (texts_by walker.old (K.peeked kernel.old) tags.now) (option_copied working.entry) env_bytes script) result }
     ensures short { IfOk result (λ next. length next.program.head ≤ 256) }
     ensures walker { walker.new ≡ walker.old }
-    ensures same { K.peeked kernel.new ≡ K.peeked kernel.old }
-    ensures rest { K.kept kernel.new ≡ K.kept kernel.old }
+    ensures kernel { OnlyPeeks K.peeked K.kept kernel.old kernel.new }
 {
     let Command {
         program: file,

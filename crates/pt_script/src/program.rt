@@ -7,6 +7,7 @@ ghost use Rattle.pt_args.specs.pt_canon.Canon.{IsAnswer, canon_of, texts_by};
 ghost use Rattle.pt_args.specs.kr_calls.Expansion.{is_script};
 ghost use Rattle.pt_args.specs.kr_calls.Scripts.{BeginsScript};
 ghost use Rattle.pt_script.specs.Programs.{base_from, canon_from, program_from, program_in};
+ghost use Rattle.pt_args.specs.pt_canon.Leaving.{OnlyPeeks};
 
 use pr_base::{Bytes, Errno, Peeks, WalkMode, components};
 use pt_args::below::pt_bind::Tags;
@@ -21,7 +22,7 @@ const HEAD_SIZE: u32 = 256;
 const SCRIPT_MARK: &[u8] = b"#!";
 
 /// A regular file that the user may execute.
-#[derive(Debug, Drop)]
+#[derive(Drop)]
 pub struct Program {
     /// Its host text.
     pub host: Bytes,
@@ -45,8 +46,7 @@ pub fn program_from<K: Peeks>(
     ensures answer { IsAnswer (program_from (texts_by walker.old (K.peeked kernel.old) tags.now) (option_copied working.entry) path.now) result }
     ensures short { IfOk result (λ program. length program.head ≤ 256) }
     ensures walker { walker.new ≡ walker.old }
-    ensures same { K.peeked kernel.new ≡ K.peeked kernel.old }
-    ensures rest { K.kept kernel.new ≡ K.kept kernel.old }
+    ensures kernel { OnlyPeeks K.peeked K.kept kernel.old kernel.new }
 {
     let base = base_from(alloc, working, path)?;
     let Canon { host, index, .. } = canon_from(kernel, walker, tags, path, base.as_slice())?;
@@ -84,8 +84,7 @@ fn canon_from<K: Peeks>(
     ensures answer { IsAnswer (canon_from (texts_by walker.old (K.peeked kernel.old) tags.now) path.now base.now) result }
     ensures host { IfOk result (λ canon. IsTrue (is_absolute canon.host)) }
     ensures walker { walker.new ≡ walker.old }
-    ensures same { K.peeked kernel.new ≡ K.peeked kernel.old }
-    ensures rest { K.kept kernel.new ≡ K.kept kernel.old }
+    ensures kernel { OnlyPeeks K.peeked K.kept kernel.old kernel.new }
 {
     answers_are_of_their_texts();
     let canon = walker.canon(kernel, tags, base, path, WalkMode::Look)?;
@@ -101,8 +100,7 @@ pub(crate) fn program_in<K: Peeks>(
     requires { IsTrue (is_absolute host) }
     ensures answer { IsAnswer (program_in (K.peeked kernel.old) host index) result }
     ensures short { IfOk result (λ program. length program.head ≤ 256) }
-    ensures same { K.peeked kernel.new ≡ K.peeked kernel.old }
-    ensures rest { K.kept kernel.new ≡ K.kept kernel.old }
+    ensures kernel { OnlyPeeks K.peeked K.kept kernel.old kernel.new }
 {
     let head = kernel.head(host.as_slice(), HEAD_SIZE)?;
     let head = cut(head);

@@ -1,11 +1,12 @@
 -- Plans of calls that run programs.
-use Rattle.std.proofs.Common.{◌≡◌, ◌≢◌, ◌∙◌, ℕ, Bool, true, false, List, Option, Some, None, Result, Ok, Err, refl, if◌then◌else◌, get_or, sym, ap}
+use Rattle.std.proofs.Common.{◌≡◌, ◌≢◌, ◌∙◌, ℕ, Bool, true, false, List, Option, Some, None, Result, Ok, Err, refl, if◌then◌else◌, get_or, sym, ap, subst}
 use Rattle.std.specs.Prelude.{IfOk}
 use Rattle.pr_base.specs.MountText.{MountText}
 use Rattle.pr_base.specs.declared.errno.Errno.{Errno}
 use Rattle.rv_mem.specs.Actions.{Action, carried_out}
 use Rattle.rv_mem.specs.declared.regs.Regs.{Regs}
 use Rattle.pt_bind.specs.Tags.{TagTable}
+use Rattle.pt_results.specs.pt_canon.Leaving.{OnlyPeeks}
 use Rattle.pt_results.specs.pt_canon.TextWalk.{TextSurroundings}
 use Rattle.pt_results.specs.kr_calls.PathTable.{PathUse, path_at}
 use Rattle.pt_results.specs.kr_calls.declared.request.Request.{Request}
@@ -13,7 +14,7 @@ use Rattle.pt_results.specs.kr_calls.declared.request.Request.TheVariants as cal
 use Rattle.pt_results.specs.pt_args.Edits.{first_of, first_reached, reached_by}
 use Rattle.pt_results.specs.pt_args.Walks.{walked}
 use Rattle.pt_results.specs.pt_args.declared.reached.Reached.{Reached}
-use Rattle.pt_faker.specs.Stopping.{IsThere, memory_at, Stopped, with_memory}
+use Rattle.pt_faker.specs.Stopping.{IsEdited, IsThere, memory_at, OnlyEdits, Stopped, with_memory}
 use Rattle.pt_results.specs.pt_args.declared.edit.Edit.{Edit}
 use Rattle.pt_results.specs.pt_args.declared.edit.Edit.TheVariants.{Cancel, Emulate, Pass, Swap}
 use Rattle.pt_faker.specs.Reading.{lists_at}
@@ -34,6 +35,11 @@ stack-stays action reply t u there carries =
 pub if_ok : {A E : Type 0} {P Q : A → Type 0} (r : Result A E) → ((x : A) → P x → Q x) → IfOk r P → IfOk r Q
 if_ok (Ok x) f p = f x p
 if_ok (Err e) f p = p
+
+-- edits behind peeks
+module _ {A B : Type 0} {stopped : A → Stopped} {around : A → B} {t u v : A} where
+  pub peeks-then : OnlyPeeks stopped around t u → OnlyEdits stopped around u v → OnlyEdits stopped around t v
+  peeks-then first second = record { edits = subst (λ (x : Stopped). IsEdited x (stopped v)) first.same second.edits; rest = second.rest ∙ first.rest }
 
 -- what holds of a call whose texts are put on the shelf
 pub swap-used : {P : Type 0} (edit made : Edit) → edit ≡ made → is_swap edit ≡ true → ((regs : List (ℕ × ℕ)) (pokes : List (ℕ × List ℕ)) → made ≡ Swap regs pokes → P) → P

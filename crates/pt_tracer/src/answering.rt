@@ -1,6 +1,6 @@
 //! Calls on users and groups, where processes believe in identities of their own.
 ghost use Rattle.std.specs.Prelude.{◌≡◌, IfOk};
-ghost use Rattle.pt_faker.specs.Stopping.{IsEdited};
+ghost use Rattle.pt_faker.specs.Stopping.{OnlyEdits};
 ghost use Rattle.pt_tracer.specs.Answering.{AnswersBy, AnswersFaked};
 
 use pr_base::NoMemory;
@@ -18,9 +18,9 @@ pub(crate) fn answer_faked<T: Tracee>(
     request: &Request,
 ) -> Result<Option<i64>, NoMemory>
     ensures answers { IfOk result (λ told. AnswersFaked identities.old request.now told identities.new (T.stopped t.old) (T.stopped t.new)) }
-    ensures edits { IsEdited (T.stopped t.old) (T.stopped t.new) }
-    ensures rest { T.around t.new ≡ T.around t.old }
+    ensures edits { OnlyEdits T.stopped T.around t.old t.new }
 {
+    // For the proof alone: the process lives.
     let _pid = t.pid();
     match identities {
         Some(table) => answer_by(alloc, t, table, request),
@@ -28,7 +28,7 @@ pub(crate) fn answer_faked<T: Tracee>(
     }
 }
 
-/// The same by the identities that there are.
+/// Answers a call on users and groups by the identities that there are.
 fn answer_by<T: Tracee>(
     alloc: Global,
     t: &mut T,
@@ -36,8 +36,7 @@ fn answer_by<T: Tracee>(
     request: &Request,
 ) -> Result<Option<i64>, NoMemory>
     ensures answers { IfOk result (λ told. AnswersBy table.old request.now told table.new (T.stopped t.old) (T.stopped t.new)) }
-    ensures edits { IsEdited (T.stopped t.old) (T.stopped t.new) }
-    ensures rest { T.around t.new ≡ T.around t.old }
+    ensures edits { OnlyEdits T.stopped T.around t.old t.new }
 {
     let pid = t.pid();
     let mut ids = table.take(pid)?;

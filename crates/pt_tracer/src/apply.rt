@@ -1,6 +1,6 @@
 //! What a plan does to the process.
 ghost use Rattle.std.specs.Prelude.{◌≡◌, IfOk, Some};
-ghost use Rattle.pt_faker.specs.Stopping.{IsEdited};
+ghost use Rattle.pt_faker.specs.Stopping.{OnlyEdits};
 ghost use Rattle.pt_tracer.specs.Watched.{applied, refused};
 
 use crate::pokes::{may_poke, poke_all};
@@ -15,9 +15,9 @@ use pt_results::below::Edit;
 /// or the number that was planned. After want of memory the process may only be dropped.
 pub(crate) fn apply<T: Tracee>(t: &mut T, edit: Edit) -> Result<Option<i64>, NoMemory>
     ensures applied { IfOk result (λ answer. record { answer = answer; stopped = T.stopped t.new } ≡ applied edit (T.stopped t.old)) }
-    ensures edits { IsEdited (T.stopped t.old) (T.stopped t.new) }
-    ensures rest { T.around t.new ≡ T.around t.old }
+    ensures edits { OnlyEdits T.stopped T.around t.old t.new }
 {
+    // For the proof alone: the process lives.
     let _pid = t.pid();
     match edit {
         Edit::Pass => Ok(None),
@@ -44,9 +44,9 @@ pub(crate) fn apply<T: Tracee>(t: &mut T, edit: Edit) -> Result<Option<i64>, NoM
 /// Takes a call away, and gives the negated number of an error as its answer.
 fn refuse<T: Tracee>(t: &mut T, errno: Errno) -> i64
     ensures refused { record { answer = Some result; stopped = T.stopped t.new } ≡ refused errno (T.stopped t.old) }
-    ensures edits { IsEdited (T.stopped t.old) (T.stopped t.new) }
-    ensures rest { T.around t.new ≡ T.around t.old }
+    ensures edits { OnlyEdits T.stopped T.around t.old t.new }
 {
+    // For the proof alone: the process lives.
     let _pid = t.pid();
     let _number = take_number(t);
     number_of(errno)

@@ -2,13 +2,15 @@
 ghost use Rattle.std.specs.Prelude.{◌≡◌, ◌≤◌, IsTrue, IfOk, length};
 ghost use Rattle.pt_bind.specs.Binding.{rows_of};
 ghost use Rattle.pt_results.specs.pt_canon.Canon.{IsAnswer};
+ghost use Rattle.pt_results.specs.pt_canon.Leaving.{OnlyPeeks};
 ghost use Rattle.pt_script.specs.Expanding.{expanded_at};
-ghost use Rattle.pt_faker.specs.Stopping.{IsEdited};
+ghost use Rattle.pt_faker.specs.Stopping.{OnlyEdits};
 ghost use Rattle.pt_results.specs.pt_args.Edits.{first_of};
 ghost use Rattle.pt_tracer.specs.Planning.{answered, cancelled, execve_plan, expand_with, has_shelf, is_swap, led_at, led_in, led_reached, led_to, list_addresses, plan_for, planned, rewritten, script_plan, stack_at, texts_at};
 
 use crate::plan::{Led, NOWHERE, Plan};
 use crate::script::script_edit;
+use pr_base::limits::SHELF;
 use pr_base::{Errno, NoMemory};
 use pt_bind::Tags;
 use pt_faker::registers::STACK;
@@ -21,9 +23,6 @@ use pt_results::{cwd_answer, link_answer};
 use pt_script::{Expanded, expand};
 use rv_mem::Use;
 use std::alloc::Global;
-
-/// How many bytes below the stack pointer are the shelf's.
-const SHELF: u64 = 65_536;
 
 /// Whether each of the 65,536 bytes below the stack pointer may be read and written.
 fn has_shelf<T: Tracee>(t: &T) -> bool
@@ -48,9 +47,9 @@ fn rewritten<T: Tracee>(
     ensures first { IfOk result (λ r. r.first ≡ first_of (texts_at (rows_of walker.old) tags.now (T.stopped t.old)) (T.stopped t.old).pid request.now) }
     ensures room { IfOk result (λ r. IsTrue (is_swap r.edit) → 65536 ≤ stack_at (T.stopped t.old)) }
     ensures walker { walker.new ≡ walker.old }
-    ensures same { T.stopped t.new ≡ T.stopped t.old }
-    ensures rest { T.around t.new ≡ T.around t.old }
+    ensures process { OnlyPeeks T.stopped T.around t.old t.new }
 {
+    // For the proof alone: the process lives.
     let _pid = t.pid();
     // The shelf is looked at only where there is a path to put on it.
     match path_of(request, 0) {
@@ -62,7 +61,7 @@ fn rewritten<T: Tracee>(
     }
 }
 
-/// The same of a call that has a path.
+/// A call that has a path: its guest paths become host paths, and it is told where the first of them led.
 fn rewritten_along<T: Tracee>(
     alloc: Global,
     t: &mut T,
@@ -74,8 +73,7 @@ fn rewritten_along<T: Tracee>(
     ensures first { IfOk result (λ r. r.first ≡ first_of (texts_at (rows_of walker.old) tags.now (T.stopped t.old)) (T.stopped t.old).pid request.now) }
     ensures room { IfOk result (λ r. IsTrue (is_swap r.edit) → 65536 ≤ stack_at (T.stopped t.old)) }
     ensures walker { walker.new ≡ walker.old }
-    ensures same { T.stopped t.new ≡ T.stopped t.old }
-    ensures rest { T.around t.new ≡ T.around t.old }
+    ensures process { OnlyPeeks T.stopped T.around t.old t.new }
 {
     edits_keep_to_paths();
     let pid = t.pid();
@@ -142,9 +140,9 @@ pub(crate) fn plan<T: Tracee>(
 ) -> Result<Plan, NoMemory>
     ensures plan { IfOk result (λ plan. (plan, T.stopped t.new) ≡ planned (rows_of walker.old) tags.now (T.stopped t.old) request.now) }
     ensures walker { walker.new ≡ walker.old }
-    ensures edits { IsEdited (T.stopped t.old) (T.stopped t.new) }
-    ensures rest { T.around t.new ≡ T.around t.old }
+    ensures edits { OnlyEdits T.stopped T.around t.old t.new }
 {
+    // For the proof alone: the process lives.
     let _pid = t.pid();
     let Some(lists) = list_addresses(request) else {
         return plan_for(alloc, t, walker, tags, request);
@@ -165,8 +163,7 @@ fn plan_for<T: Tracee>(
 ) -> Result<Plan, NoMemory>
     ensures plan { IfOk result (λ plan. plan ≡ plan_for (texts_at (rows_of walker.old) tags.now (T.stopped t.old)) (T.stopped t.old) request.now) }
     ensures walker { walker.new ≡ walker.old }
-    ensures same { T.stopped t.new ≡ T.stopped t.old }
-    ensures rest { T.around t.new ≡ T.around t.old }
+    ensures process { OnlyPeeks T.stopped T.around t.old t.new }
 {
     if let Some(edit) = answered(alloc, t, walker, tags, request)? {
         return Ok(Plan { edit, led: NOWHERE });
@@ -186,8 +183,7 @@ fn answered<T: Tracee>(
 ) -> Result<Option<Edit>, NoMemory>
     ensures edit { IfOk result (λ edit. edit ≡ answered (texts_at (rows_of walker.old) tags.now (T.stopped t.old)) (T.stopped t.old) request.now) }
     ensures walker { walker.new ≡ walker.old }
-    ensures same { T.stopped t.new ≡ T.stopped t.old }
-    ensures rest { T.around t.new ≡ T.around t.old }
+    ensures process { OnlyPeeks T.stopped T.around t.old t.new }
 {
     let pid = t.pid();
     match request {
@@ -212,9 +208,9 @@ fn plan_execve<T: Tracee>(
 ) -> Result<Plan, NoMemory>
     ensures plan { IfOk result (λ plan. (plan, T.stopped t.new) ≡ execve_plan (rows_of walker.old) tags.now (T.stopped t.old) request.now path.now lists) }
     ensures walker { walker.new ≡ walker.old }
-    ensures edits { IsEdited (T.stopped t.old) (T.stopped t.new) }
-    ensures rest { T.around t.new ≡ T.around t.old }
+    ensures edits { OnlyEdits T.stopped T.around t.old t.new }
 {
+    // For the proof alone: the process lives.
     let _pid = t.pid();
     let Rewritten { edit, first } = rewritten(alloc, t, walker, tags, request)?;
     if !is_swap(&edit) {
@@ -253,9 +249,9 @@ fn expand_with<T: Tracee>(
     requires few { length handed.args ≤ 4096 }
     ensures plan { IfOk result (λ plan. (plan, T.stopped t.new) ≡ expand_with (rows_of walker.old) tags.now edit path.now args handed (T.stopped t.old)) }
     ensures walker { walker.new ≡ walker.old }
-    ensures edits { IsEdited (T.stopped t.old) (T.stopped t.new) }
-    ensures rest { T.around t.new ≡ T.around t.old }
+    ensures edits { OnlyEdits T.stopped T.around t.old t.new }
 {
+    // For the proof alone: the process lives.
     let _pid = t.pid();
     let kept = handed.args.len().saturating_sub(1);
     match expanded(alloc, t, walker, tags, path, handed) {
@@ -280,8 +276,7 @@ fn expanded<T: Tracee>(
 ) -> Result<Expanded, WalkErr>
     ensures answer { IsAnswer (expanded_at (texts_at (rows_of walker.old) tags.now (T.stopped t.old)) (T.stopped t.old).pid handed.env_bytes path.now handed.args) result }
     ensures walker { walker.new ≡ walker.old }
-    ensures same { T.stopped t.new ≡ T.stopped t.old }
-    ensures rest { T.around t.new ≡ T.around t.old }
+    ensures process { OnlyPeeks T.stopped T.around t.old t.new }
 {
     let pid = t.pid();
     let Handed { args, env_bytes } = handed;
@@ -319,9 +314,9 @@ fn plan_script<T: Tracee>(
     requires room { 65536 ≤ stack_at (T.stopped t.old) }
     requires few { kept ≤ 4096 }
     ensures plan { IfOk result (λ plan. (plan, T.stopped t.new) ≡ script_plan (T.stopped t.old) args kept program) }
-    ensures edits { IsEdited (T.stopped t.old) (T.stopped t.new) }
-    ensures rest { T.around t.new ≡ T.around t.old }
+    ensures edits { OnlyEdits T.stopped T.around t.old t.new }
 {
+    // For the proof alone: the process lives.
     let _pid = t.pid();
     let sp = t.reg(STACK);
     let addresses = match addresses_behind(alloc, t, args, kept) {

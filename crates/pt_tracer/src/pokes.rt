@@ -1,7 +1,7 @@
 //! Bytes that are written into the memory of a stopped process.
 ghost use Rattle.std.specs.Prelude.{◌≡◌, IsTrue, OnOk, length};
 ghost use Rattle.rv_mem.specs.Pages.{allows_all};
-ghost use Rattle.pt_faker.specs.Stopping.{after_poke, IsEdited, memory_at};
+ghost use Rattle.pt_faker.specs.Stopping.{after_poke, memory_at, OnlyEdits};
 ghost use Rattle.pt_tracer.specs.Poking.{may_poke, poked};
 
 use pr_base::{Bytes, NoMemory};
@@ -25,9 +25,9 @@ pub(crate) fn may_poke<T: Tracee>(t: &T, pokes: &[(u64, Bytes)]) -> bool
 pub(crate) fn poke_all<T: Tracee>(t: &mut T, pokes: &[(u64, Bytes)]) -> Result<(), NoMemory>
     requires may { IsTrue (may_poke pokes.now (T.stopped t.old)) }
     ensures poked { OnOk result (T.stopped t.new ≡ poked pokes.now (T.stopped t.old)) }
-    ensures edits { IsEdited (T.stopped t.old) (T.stopped t.new) }
-    ensures rest { T.around t.new ≡ T.around t.old }
+    ensures edits { OnlyEdits T.stopped T.around t.old t.new }
 {
+    // For the proof alone: the process lives.
     let _pid = t.pid();
     let Some(((at, bytes), others)) = pokes.split_first() else {
         return Ok(());
@@ -46,9 +46,9 @@ fn write_before<T: Tracee>(
     requires may { IsTrue (allows_all (memory_at (T.stopped t.old)).pages at (length bytes.now) Use.Write) }
     ensures after { OnOk result (T.stopped t.new ≡ after_poke at bytes.now (T.stopped t.old)) }
     ensures still { OnOk result (may_poke _others.now (T.stopped t.new) ≡ may_poke _others.now (T.stopped t.old)) }
-    ensures edits { IsEdited (T.stopped t.old) (T.stopped t.new) }
-    ensures rest { T.around t.new ≡ T.around t.old }
+    ensures edits { OnlyEdits T.stopped T.around t.old t.new }
 {
+    // For the proof alone: the process lives.
     let _pid = t.pid();
     write(t, at, bytes)
 }

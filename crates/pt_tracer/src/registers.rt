@@ -1,6 +1,6 @@
 //! The registers of a call on RISC-V at its stops.
 ghost use Rattle.std.specs.Prelude.{◌≡◌, ◌<◌};
-ghost use Rattle.pt_faker.specs.Stopping.{IsEdited, with_register};
+ghost use Rattle.pt_faker.specs.Stopping.{with_register, OnlyEdits};
 ghost use Rattle.pt_tracer.specs.Registers.{arguments_at, given_back, is_register, with_argument, with_arguments};
 
 use pt_faker::Tracee;
@@ -50,8 +50,7 @@ impl Arguments {
     /// Gives the registers back.
     pub(crate) fn give_back<T: Tracee>(self, t: &mut T)
         ensures back { T.stopped t.new ≡ given_back self (T.stopped t.old) }
-        ensures edits { IsEdited (T.stopped t.old) (T.stopped t.new) }
-        ensures rest { T.around t.new ≡ T.around t.old }
+        ensures edits { OnlyEdits T.stopped T.around t.old t.new }
     {
         set(t, A1, self.a1);
         set(t, A2, self.a2);
@@ -67,9 +66,9 @@ pub(crate) fn set<T: Tracee>(t: &mut T, k: u8, value: u64)
     requires first { 0 < k }
     requires last { k < 32 }
     ensures set { T.stopped t.new ≡ with_register k value (T.stopped t.old) }
-    ensures edits { IsEdited (T.stopped t.old) (T.stopped t.new) }
-    ensures rest { T.around t.new ≡ T.around t.old }
+    ensures edits { OnlyEdits T.stopped T.around t.old t.new }
 {
+    // For the proof alone: the process lives.
     let _pid = t.pid();
     t.set_reg(k, value);
 }
@@ -84,9 +83,9 @@ fn is_register(k: u8) -> bool
 /// Gives registers other values, by their numbers.
 pub(crate) fn set_all<T: Tracee>(t: &mut T, registers: &[(u8, u64)])
     ensures set { T.stopped t.new ≡ with_arguments registers.now (T.stopped t.old) }
-    ensures edits { IsEdited (T.stopped t.old) (T.stopped t.new) }
-    ensures rest { T.around t.new ≡ T.around t.old }
+    ensures edits { OnlyEdits T.stopped T.around t.old t.new }
 {
+    // For the proof alone: the process lives.
     let _pid = t.pid();
     let Some(((k, value), others)) = registers.split_first() else {
         return;
@@ -98,9 +97,9 @@ pub(crate) fn set_all<T: Tracee>(t: &mut T, registers: &[(u8, u64)])
 /// Gives a register another value, if there is one of this number.
 fn set_one<T: Tracee>(t: &mut T, k: u8, value: u64)
     ensures set { T.stopped t.new ≡ with_argument (k, value) (T.stopped t.old) }
-    ensures edits { IsEdited (T.stopped t.old) (T.stopped t.new) }
-    ensures rest { T.around t.new ≡ T.around t.old }
+    ensures edits { OnlyEdits T.stopped T.around t.old t.new }
 {
+    // For the proof alone: the process lives.
     let _pid = t.pid();
     if is_register(k) {
         set(t, k, value);

@@ -3,15 +3,13 @@ ghost use Rattle.std.specs.Prelude.{◌≡◌, ◌-◌, ◌≤◌, ◌++◌, nat
 ghost use Rattle.std.specs.Option.{SomeIff};
 ghost use Rattle.pt_tracer.specs.ScriptEdit.{addresses_of, put_texts, script_edit, script_room, shelved_script, texts_room, with_texts};
 
+use pr_base::limits::{PATH_MAX, SHELF};
 use pr_base::{Bytes, Errno, NoMemory, Texts};
 use pt_results::below::{Edit, Shelf, Swaps};
 use std::alloc::Global;
 
 /// How many bytes a host text has at most, without its zero.
-const LONGEST: usize = 4095;
-
-/// How many bytes below the stack pointer are the shelf's.
-const SHELF: usize = 65_536;
+const LONGEST: usize = PATH_MAX - 1;
 
 /// What a text takes at most beside its bytes: its zero, and where it has to begin at an address divisible by 8.
 const TEXT_ROOM: usize = 8;
@@ -77,7 +75,7 @@ fn fits(host: &[u8], texts: &[Bytes], addresses: &[u8]) -> bool
     requires { length host.now ≤ 4095 }
     ensures { result ≡ not (nat_lt 65536 (script_room host.now texts.now addresses.now)) }
 {
-    let Some(left) = room_behind(texts, SHELF) else {
+    let Some(left) = room_behind(texts, SHELF as usize) else {
         return false;
     };
     let path = host.len() + TEXT_ROOM;
@@ -85,7 +83,7 @@ fn fits(host: &[u8], texts: &[Bytes], addresses: &[u8]) -> bool
     path + list <= left
 }
 
-/// The same, where there is room for it.
+/// What is shown of a script whose texts and addresses have room on the shelf.
 fn shelved_script(
     alloc: Global,
     sp: u64,

@@ -1,6 +1,6 @@
 //! The second stop of a call.
 ghost use Rattle.std.specs.Prelude.{◌≡◌, OnOk, Some};
-ghost use Rattle.pt_faker.specs.Stopping.{IsEdited, register_at};
+ghost use Rattle.pt_faker.specs.Stopping.{register_at, OnlyEdits};
 ghost use Rattle.pt_faker.specs.Faking.{due_of, remembered_of};
 ghost use Rattle.pt_faker.specs.pt_ident.IdentityTable.{starts_as_root};
 ghost use Rattle.pt_bind.specs.Tags.{with_tag};
@@ -47,8 +47,7 @@ pub(crate) fn begin<T: Tracee>(
 ) -> Result<(), NoMemory>
     ensures tags { OnOk result (tags.new ≡ with_tag tags.old (T.stopped t.old).pid Exe index) }
     ensures begins { OnOk result (BeginsAs identities.old (T.stopped t.old) identities.new (T.stopped t.new)) }
-    ensures edits { IsEdited (T.stopped t.old) (T.stopped t.new) }
-    ensures rest { T.around t.new ≡ T.around t.old }
+    ensures edits { OnlyEdits T.stopped T.around t.old t.new }
 {
     let pid = t.pid();
     tags.set_exe(pid, index)?;
@@ -61,8 +60,7 @@ pub(crate) fn begin<T: Tracee>(
 /// The effective numbers of a process that begins a new program are saved, and stand in its auxiliary vector.
 fn begin_by<T: Tracee>(t: &mut T, table: &mut Identities) -> Result<(), NoMemory>
     ensures begins { OnOk result (BeginsBy table.old (T.stopped t.old) table.new (T.stopped t.new)) }
-    ensures edits { IsEdited (T.stopped t.old) (T.stopped t.new) }
-    ensures rest { T.around t.new ≡ T.around t.old }
+    ensures edits { OnlyEdits T.stopped T.around t.old t.new }
 {
     let pid = t.pid();
     let mut ids = table.take(pid)?;
@@ -85,8 +83,7 @@ pub(crate) fn give_back<T: Tracee>(
     ensures tags { OnOk result (tags.new ≡ tags_after tags.old (T.stopped t.old).pid (noted call.now.request call.now.led.index (answer_at (returned call.now (T.stopped t.old))))) }
     ensures shown { OnOk result (T.stopped t.new ≡ shown_to user identities.old call.now (returned call.now (T.stopped t.old))) }
     ensures remembers { OnOk result (identities.new ≡ remembered_in identities.old call.now (T.stopped t.old).handed.target (register_at (T.stopped t.new) 10)) }
-    ensures edits { IsEdited (T.stopped t.old) (T.stopped t.new) }
-    ensures rest { T.around t.new ≡ T.around t.old }
+    ensures edits { OnlyEdits T.stopped T.around t.old t.new }
 {
     let pid = t.pid();
     let target = t.target();
@@ -102,9 +99,9 @@ pub(crate) fn give_back<T: Tracee>(
 /// The registers are as before the first stop, and the answer is told.
 fn return_registers<T: Tracee>(t: &mut T, call: &Pending)
     ensures returned { T.stopped t.new ≡ returned call.now (T.stopped t.old) }
-    ensures edits { IsEdited (T.stopped t.old) (T.stopped t.new) }
-    ensures rest { T.around t.new ≡ T.around t.old }
+    ensures edits { OnlyEdits T.stopped T.around t.old t.new }
 {
+    // For the proof alone: the process lives.
     let _pid = t.pid();
     call.passed.give_back(t);
     match call.answer {
@@ -123,9 +120,9 @@ fn settle_due<T: Tracee>(
 ) -> Result<(), NoMemory>
     ensures shown { OnOk result (T.stopped t.new ≡ shown_to user (Some table.old) call.now (T.stopped t.old)) }
     ensures remembers { OnOk result (table.new ≡ remembered_of (due_of (starts_as_root table.old) call.now.request) target (register_at (T.stopped t.new) 10) table.old) }
-    ensures edits { IsEdited (T.stopped t.old) (T.stopped t.new) }
-    ensures rest { T.around t.new ≡ T.around t.old }
+    ensures edits { OnlyEdits T.stopped T.around t.old t.new }
 {
+    // For the proof alone: the process lives.
     let _pid = t.pid();
     match due_of(table.starts_as_root(), &call.request) {
         Some(due) => {
@@ -162,9 +159,9 @@ fn show<T: Tracee>(
     due: Due,
 ) -> Result<(), NoMemory>
     ensures shown { OnOk result (T.stopped t.new ≡ shown_due user table.now at_root (Some due) (T.stopped t.old)) }
-    ensures edits { IsEdited (T.stopped t.old) (T.stopped t.new) }
-    ensures rest { T.around t.new ≡ T.around t.old }
+    ensures edits { OnlyEdits T.stopped T.around t.old t.new }
 {
+    // For the proof alone: the process lives.
     let _pid = t.pid();
     match due {
         Due::Remembers { .. } => {

@@ -1,6 +1,6 @@
 //! The tracer.
 ghost use Rattle.std.specs.Prelude.{◌≡◌, OnOk, Some};
-ghost use Rattle.pt_faker.specs.Stopping.{IsEdited};
+ghost use Rattle.pt_faker.specs.Stopping.{OnlyEdits};
 ghost use Rattle.pt_tracer.specs.Answering.{starting_identities};
 
 use crate::answering::answer_faked;
@@ -77,8 +77,7 @@ impl Tracer {
     /// The first stop of a call that could be read: it is answered here, or shown to the kernel with host paths.
     fn take_up<T: Tracee>(&mut self, t: &mut T, request: Request) -> Result<(), NoMemory>
         ensures enters { OnOk result ((self.new, T.stopped t.new) ≡ by_identities self.old request (T.stopped t.old) self.old.identities) }
-        ensures edits { IsEdited (T.stopped t.old) (T.stopped t.new) }
-        ensures rest { T.around t.new ≡ T.around t.old }
+        ensures edits { OnlyEdits T.stopped T.around t.old t.new }
     {
         let pid = t.pid();
         let passed = Arguments::of(t);
@@ -116,9 +115,9 @@ impl Tracer {
     /// The second stop of a call.
     fn settle<T: Tracee>(&mut self, t: &mut T, call: Pending) -> Result<(), NoMemory>
         ensures exits { OnOk result ((self.new, T.stopped t.new) ≡ after_pending self.old (T.stopped t.old) (Some call)) }
-        ensures edits { IsEdited (T.stopped t.old) (T.stopped t.new) }
-        ensures rest { T.around t.new ≡ T.around t.old }
+        ensures edits { OnlyEdits T.stopped T.around t.old t.new }
     {
+        // For the proof alone: the process lives.
         let _pid = t.pid();
         if has_begun(&call, t) {
             begin(t, &mut self.tags, &mut self.identities, call.led.index)

@@ -3,7 +3,7 @@
 use std::alloc::AllocError;
 
 /// Why a program has no code. Unbound labels are looked for first, over the whole program.
-#[derive(Clone, Copy, Debug, PartialEq, Eq)]
+#[derive(Clone, Copy)]
 pub enum AsmFault {
     /// A label is used and isn't bound. `label` is that of the first such use.
     Unbound { label: u32 },

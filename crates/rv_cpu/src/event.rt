@@ -1,7 +1,7 @@
 //! How an instruction ends.
 
 /// How an instruction ended.
-#[derive(Clone, Copy, Debug, PartialEq, Eq)]
+#[derive(Clone, Copy)]
 pub enum Event {
     /// The pc is at the next instruction.
     Next,

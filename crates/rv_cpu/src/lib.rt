@@ -29,14 +29,12 @@ mod event;
 mod execution;
 pub mod laws;
 mod load;
-mod moving;
 mod registers;
 mod reservation;
 mod running;
 
 pub use event::Event;
 pub use execution::step;
-pub use moving::moved_on;
 pub use reservation::Held;
 pub use running::run;
 pub use rv_mem::Regs;

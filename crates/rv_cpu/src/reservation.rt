@@ -3,7 +3,7 @@ ghost use Rattle.std.specs.Prelude.{◌≡◌};
 ghost use Rattle.rv_cpu.specs.Step.{is_held};
 
 /// The bytes that the last LR reserved, for an SC of the same address and width to store in.
-#[derive(Clone, Copy, Debug, PartialEq, Eq)]
+#[derive(Clone, Copy)]
 pub struct Held {
     /// The address of the first byte.
     pub at: u64,

@@ -8,7 +8,7 @@ use rv_asm::Asm;
 use rv_table::Instr;
 
 /// What a loop makes of the number in memory and of that of a register.
-#[derive(Clone, Copy, Debug, PartialEq, Eq)]
+#[derive(Clone, Copy)]
 pub enum LoopOp {
     /// It takes that of the register.
     Swap,
@@ -19,7 +19,7 @@ pub enum LoopOp {
 }
 
 /// The registers of a loop, by their numbers.
-#[derive(Clone, Copy, Debug, PartialEq, Eq)]
+#[derive(Clone, Copy)]
 pub struct LoopRegs {
     /// Gets the number that was in memory, a word sign-extended.
     pub rd: u8,

@@ -12,9 +12,7 @@ use Rattle.rv_mem.specs.Pages.{Pages, with_page}
 use Rattle.std.specs.Ordering.{nat_cmp}
 use Rattle.rv_mem.proofs.TableLemmas.{below_or_not}
 use Rattle.rv_mem.specs.Places.{Places, no_page, page_at, pages_at, AreNumbered, IsSettled}
-
-some_is : {A : Type 0} (x y : A) → ◌≡◌ {A = Option A} (Some x) (Some y) → x ≡ y
-some_is x y e = cc
+use Rattle.pr_base.proofs.TextLemmas.{some_is}
 
 -- ---- what stands where
 

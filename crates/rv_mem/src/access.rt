@@ -67,7 +67,7 @@ impl<const MARKED: u8> Table<MARKED> {
         }
     }
 
-    /// The same for bytes that may lie in several pages.
+    /// Writes bytes that may lie in several pages, if each of them may be written, which clears their marks. All or none are written.
     #[inline(never)]
     fn write_over_pages(&mut self, at: u64, bytes: &[u8]) -> Result<(), StoreFault>
         requires placed { IsPlaced self.old }
@@ -128,7 +128,7 @@ impl<const MARKED: u8> Table<MARKED> {
         }
     }
 
-    /// The same for bytes that may lie in several pages.
+    /// Copies bytes that may lie in several pages, if each of them allows a use, and tells whether one of them is marked.
     #[inline(never)]
     fn read_over_pages(&self, at: u64, into: &mut [u8], what: Use) -> Option<bool>
         requires placed { IsPlaced self.now }

@@ -4,7 +4,7 @@ use pr_base::NoMemory;
 use std::alloc::AllocError;
 
 /// Why pages aren't mapped or copied.
-#[derive(Clone, Copy, Debug, PartialEq, Eq)]
+#[derive(Clone, Copy, Debug)]
 pub enum MapFault {
     /// The process or the room would pass its limit of pages.
     Full,
@@ -12,11 +12,11 @@ pub enum MapFault {
 }
 
 /// A byte isn't mapped with the right.
-#[derive(Clone, Copy, Debug, PartialEq, Eq)]
+#[derive(Clone, Copy, Debug)]
 pub struct BadAddress;
 
 /// Why bytes aren't written.
-#[derive(Clone, Copy, Debug, PartialEq, Eq)]
+#[derive(Clone, Copy, Debug)]
 pub enum StoreFault {
     /// A byte isn't mapped with the right to write.
     BadAddress,
@@ -24,7 +24,7 @@ pub enum StoreFault {
 }
 
 /// Why a text isn't read.
-#[derive(Clone, Copy, Debug, PartialEq, Eq)]
+#[derive(Clone, Copy)]
 pub enum TextFault {
     /// A byte before the end of the text isn't readable.
     BadAddress,

@@ -55,4 +55,4 @@ pub use fault::{BadAddress, MapFault, StoreFault, TextFault};
 pub use regs::Regs;
 pub use rights::{Rights, Use};
 pub use room::Room;
-pub use space::{PAGES_END, SPACE_PAGES, Space};
+pub use space::{ALL_PAGES, PAGES_END, SPACE_PAGES, Space};

@@ -258,7 +258,7 @@ impl<const MARKED: u8> PageList<MARKED> {
         self.fetch_anew(place, alloc, offset)
     }
 
-    /// The same, where it isn't remembered.
+    /// The instruction of the word at an offset in the page at a place, which isn't remembered yet: it is decoded, and remembered from now on.
     #[inline(never)]
     fn fetch_anew(&mut self, place: usize, alloc: Global, offset: usize) -> Small
         requires there { place < length self.old }

@@ -20,7 +20,8 @@ pub fn place_of(places: &BTreeMap<u64, usize>, number: u64) -> Option<usize>
     }
 }
 
-/// The same, where a place that is remembered is tried first: it is right where the page at it has the number.
+/// The place of the page at a number, if it is there. A place that is remembered is tried first: it is right where the page at it has the
+/// number.
 #[inline(always)]
 pub fn recalled(
     places: &BTreeMap<u64, usize>,

@@ -104,7 +104,7 @@ impl<const MARKED: u8> Table<MARKED> {
         }
     }
 
-    /// The same of pages that all lie below the end of a memory. Where the range has them all, none is looked for.
+    /// Unmaps `count` pages from a number on, where all pages lie below the end of a memory. Where the range has them all, none is looked for.
     pub fn unmap_placed(&mut self, first: u64, count: u64)
         requires placed { IsPlaced self.old }
         requires fits { first + count < 2 ^ 64 }

@@ -1,7 +1,7 @@
 //! What may be done with a page.
 
 /// The rights of a page, as mmap(2) gives them.
-#[derive(Clone, Copy, Debug, PartialEq, Eq)]
+#[derive(Clone, Copy)]
 pub struct Rights {
     pub r: bool,
     pub w: bool,
@@ -9,7 +9,7 @@ pub struct Rights {
 }
 
 /// What bytes are used for: each use needs the right of its name.
-#[derive(Clone, Copy, Debug, PartialEq, Eq)]
+#[derive(Clone, Copy)]
 pub enum Use {
     Read,
     Write,

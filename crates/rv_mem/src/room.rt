@@ -7,7 +7,7 @@ use std::marker::Model;
 const ROOM_PAGES: u32 = 262_144;
 
 /// The pages of all processes, counted. Contracts see their number.
-#[derive(Debug, Drop)]
+#[derive(Drop)]
 pub struct Room {
     pages: u32,
 }

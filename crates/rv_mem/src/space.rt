@@ -19,8 +19,11 @@ use std::marker::Model;
 /// The most pages that a process may have.
 pub const SPACE_PAGES: u32 = 16_384;
 
-/// Every page lies below this address.
+/// Every page lies below this address: the end of the half of Sv39 that Linux gives a program, but for its last page.
 pub const PAGES_END: u64 = 0x3F_FFFF_F000;
+
+/// How many pages lie below that address.
+pub const ALL_PAGES: u32 = (PAGES_END / PAGE_SIZE) as u32;
 
 /// A process's memory: pages of 4,096 bytes with rights, and marks on bytes. Where `MARKED` is 0
 /// it keeps no marks. A byte is read through its page's rights; an address is a byte's place among

@@ -7,7 +7,7 @@ use pr_base::PAGE_SIZE;
 use std::alloc::AllocError;
 
 /// Where the search for a text's end stopped.
-#[derive(Clone, Copy, Debug, PartialEq, Eq)]
+#[derive(Clone, Copy)]
 pub enum TextEnd {
     /// After the first zero.
     Zero,
@@ -18,7 +18,7 @@ pub enum TextEnd {
 }
 
 /// What the search for a text's end read.
-#[derive(Clone, Copy, Debug, PartialEq, Eq)]
+#[derive(Clone, Copy)]
 pub struct Scan {
     /// How many bytes.
     pub reach: u64,

@@ -36,7 +36,7 @@ pub enum Operands {
     Fixed,
     /// Format R, with two bits for the order of accesses.
     Atomic { rd: u8, rs1: u8, rs2: u8, order: u8 },
-    /// The same without a second register.
+    /// Format R, with two bits for the order of accesses and without a second register.
     Reserve { rd: u8, rs1: u8, order: u8 },
 }
 

@@ -3,7 +3,7 @@ ghost use Rattle.std.specs.Prelude.{◌≡◌, nat_lt, Ok};
 ghost use Rattle.rv_mem.specs.Actions.{Done};
 ghost use Rattle.kr_calls.specs.Arguments.{has};
 ghost use Rattle.kr_calls.specs.Decodes.{Decodes, WantsForTexts};
-ghost use Rattle.kr_calls.specs.Decoding.{ftruncate_row, faccessat_row, faccessat_with, openat_row, openat_with, getdents64_row, lseek_row, read_row, write_row, readv_row, writev_row, readlinkat_row, readlinkat_with, newfstatat_row, newfstatat_with, fstat_row, has_bad_open_flags, has_no_size};
+ghost use Rattle.kr_calls.specs.Decoding.{decoded_ftruncate, decoded_faccessat, faccessat_with, decoded_openat, openat_with, decoded_getdents64, decoded_lseek, decoded_read, decoded_write, decoded_readv, decoded_writev, decoded_readlinkat, readlinkat_with, decoded_newfstatat, newfstatat_with, decoded_fstat, has_bad_open_flags, has_no_size};
 
 use crate::arguments::{allows_empty_path, has, has_other_stat_flag, int, long, signed_long, word};
 use crate::fault::CallFault;
@@ -21,7 +21,7 @@ const ACCESS_RIGHTS: u32 = 0x7;
 
 /// ftruncate(2): EINVAL for a negative length.
 pub fn ftruncate(regs: &Regs) -> Result<Request, Errno>
-    ensures { ftruncate_row regs.now ≡ Done result }
+    ensures { decoded_ftruncate regs.now ≡ Done result }
 {
     let len = long(regs, 1);
     if len > i64::MAX as u64 {
@@ -35,8 +35,8 @@ pub fn ftruncate(regs: &Regs) -> Result<Request, Errno>
 
 /// faccessat(2): EINVAL for an unknown right.
 pub fn faccessat<const M: u8>(regs: &Regs, mem: &mut Space<M>) -> Result<Request, CallFault>
-    ensures decoded { Decodes result (faccessat_row regs.now) mem.old mem.new }
-    ensures wanting { WantsForTexts result (faccessat_row regs.now) }
+    ensures decoded { Decodes result (decoded_faccessat regs.now) mem.old mem.new }
+    ensures wanting { WantsForTexts result (decoded_faccessat regs.now) }
     ensures pages { mem.new.pages ≡ mem.old.pages }
 {
     if has_other_right(word(regs, 2)) {
@@ -68,8 +68,8 @@ fn has_other_right(mode: u32) -> bool
 
 /// openat(2): EINVAL for flags that make no sense together; unknown ones are kept.
 pub fn openat<const M: u8>(regs: &Regs, mem: &mut Space<M>) -> Result<Request, CallFault>
-    ensures decoded { Decodes result (openat_row regs.now) mem.old mem.new }
-    ensures wanting { WantsForTexts result (openat_row regs.now) }
+    ensures decoded { Decodes result (decoded_openat regs.now) mem.old mem.new }
+    ensures wanting { WantsForTexts result (decoded_openat regs.now) }
     ensures pages { mem.new.pages ≡ mem.old.pages }
 {
     if has_bad_open_flags(word(regs, 2)) {
@@ -102,7 +102,7 @@ fn has_bad_open_flags(flags: u32) -> bool
 
 /// getdents64(2).
 pub fn getdents64(regs: &Regs) -> Request
-    ensures { getdents64_row regs.now ≡ Done (Ok result) }
+    ensures { decoded_getdents64 regs.now ≡ Done (Ok result) }
 {
     Request::Getdents64 {
         fd: int(regs, 0),
@@ -113,7 +113,7 @@ pub fn getdents64(regs: &Regs) -> Request
 
 /// lseek(2).
 pub fn lseek(regs: &Regs) -> Request
-    ensures { lseek_row regs.now ≡ Done (Ok result) }
+    ensures { decoded_lseek regs.now ≡ Done (Ok result) }
 {
     Request::Lseek {
         fd: int(regs, 0),
@@ -124,7 +124,7 @@ pub fn lseek(regs: &Regs) -> Request
 
 /// read(2).
 pub fn read(regs: &Regs) -> Request
-    ensures { read_row regs.now ≡ Done (Ok result) }
+    ensures { decoded_read regs.now ≡ Done (Ok result) }
 {
     Request::Read {
         fd: int(regs, 0),
@@ -135,7 +135,7 @@ pub fn read(regs: &Regs) -> Request
 
 /// write(2).
 pub fn write(regs: &Regs) -> Request
-    ensures { write_row regs.now ≡ Done (Ok result) }
+    ensures { decoded_write regs.now ≡ Done (Ok result) }
 {
     Request::Write {
         fd: int(regs, 0),
@@ -146,7 +146,7 @@ pub fn write(regs: &Regs) -> Request
 
 /// readv(2).
 pub fn readv(regs: &Regs) -> Request
-    ensures { readv_row regs.now ≡ Done (Ok result) }
+    ensures { decoded_readv regs.now ≡ Done (Ok result) }
 {
     Request::Readv {
         fd: int(regs, 0),
@@ -157,7 +157,7 @@ pub fn readv(regs: &Regs) -> Request
 
 /// writev(2).
 pub fn writev(regs: &Regs) -> Request
-    ensures { writev_row regs.now ≡ Done (Ok result) }
+    ensures { decoded_writev regs.now ≡ Done (Ok result) }
 {
     Request::Writev {
         fd: int(regs, 0),
@@ -168,8 +168,8 @@ pub fn writev(regs: &Regs) -> Request
 
 /// readlinkat(2): EINVAL for a size that isn't above 0.
 pub fn readlinkat<const M: u8>(regs: &Regs, mem: &mut Space<M>) -> Result<Request, CallFault>
-    ensures decoded { Decodes result (readlinkat_row regs.now) mem.old mem.new }
-    ensures wanting { WantsForTexts result (readlinkat_row regs.now) }
+    ensures decoded { Decodes result (decoded_readlinkat regs.now) mem.old mem.new }
+    ensures wanting { WantsForTexts result (decoded_readlinkat regs.now) }
     ensures pages { mem.new.pages ≡ mem.old.pages }
 {
     if has_no_size(word(regs, 3)) {
@@ -202,8 +202,8 @@ fn has_no_size(size: u32) -> bool
 
 /// newfstatat(2): EINVAL for an unknown flag. With AT_EMPTY_PATH the path may be empty.
 pub fn newfstatat<const M: u8>(regs: &Regs, mem: &mut Space<M>) -> Result<Request, CallFault>
-    ensures decoded { Decodes result (newfstatat_row regs.now) mem.old mem.new }
-    ensures wanting { WantsForTexts result (newfstatat_row regs.now) }
+    ensures decoded { Decodes result (decoded_newfstatat regs.now) mem.old mem.new }
+    ensures wanting { WantsForTexts result (decoded_newfstatat regs.now) }
     ensures pages { mem.new.pages ≡ mem.old.pages }
 {
     let flags = word(regs, 3);
@@ -231,7 +231,7 @@ fn newfstatat_with(regs: &Regs, path: Bytes) -> Request
 
 /// fstat(2).
 pub fn fstat(regs: &Regs) -> Request
-    ensures { fstat_row regs.now ≡ Done (Ok result) }
+    ensures { decoded_fstat regs.now ≡ Done (Ok result) }
 {
     Request::Fstat {
         fd: int(regs, 0),

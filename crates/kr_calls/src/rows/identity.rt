@@ -1,7 +1,7 @@
 //! Calls on user and group numbers. They are tested when a call is carried out.
 ghost use Rattle.std.specs.Prelude.{◌≡◌, Ok, IfNone, IfSome};
 ghost use Rattle.rv_mem.specs.Actions.{Action, Done};
-ghost use Rattle.kr_calls.specs.Decoding.{Decoded, by_identity, getresgid_row, getresuid_row, setresgid_row, setresuid_row};
+ghost use Rattle.kr_calls.specs.Decoding.{Decoded, by_identity, decoded_getresgid, decoded_getresuid, decoded_setresgid, decoded_setresuid};
 
 use crate::arguments::{int, long, word};
 use crate::request::Request;
@@ -9,7 +9,7 @@ use rv_mem::Regs;
 
 /// setresuid(2).
 pub fn setresuid(regs: &Regs) -> Request
-    ensures { setresuid_row regs.now ≡ Done (Ok result) }
+    ensures { decoded_setresuid regs.now ≡ Done (Ok result) }
 {
     Request::Setresuid {
         ruid: word(regs, 0),
@@ -20,7 +20,7 @@ pub fn setresuid(regs: &Regs) -> Request
 
 /// getresuid(2).
 pub fn getresuid(regs: &Regs) -> Request
-    ensures { getresuid_row regs.now ≡ Done (Ok result) }
+    ensures { decoded_getresuid regs.now ≡ Done (Ok result) }
 {
     Request::Getresuid {
         ruid: long(regs, 0),
@@ -31,7 +31,7 @@ pub fn getresuid(regs: &Regs) -> Request
 
 /// setresgid(2).
 pub fn setresgid(regs: &Regs) -> Request
-    ensures { setresgid_row regs.now ≡ Done (Ok result) }
+    ensures { decoded_setresgid regs.now ≡ Done (Ok result) }
 {
     Request::Setresgid {
         rgid: word(regs, 0),
@@ -42,7 +42,7 @@ pub fn setresgid(regs: &Regs) -> Request
 
 /// getresgid(2).
 pub fn getresgid(regs: &Regs) -> Request
-    ensures { getresgid_row regs.now ≡ Done (Ok result) }
+    ensures { decoded_getresgid regs.now ≡ Done (Ok result) }
 {
     Request::Getresgid {
         rgid: long(regs, 0),

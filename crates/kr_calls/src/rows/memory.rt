@@ -1,7 +1,7 @@
 //! Calls on the memory of the caller.
 ghost use Rattle.std.specs.Prelude.{◌≡◌, ◌+◌, nat_lt, Ok};
 ghost use Rattle.rv_mem.specs.Actions.{Done};
-ghost use Rattle.kr_calls.specs.Decoding.{brk_row, munmap_row, mmap_row, mprotect_row, has_bad_map_flags};
+ghost use Rattle.kr_calls.specs.Decoding.{decoded_brk, decoded_munmap, decoded_mmap, decoded_mprotect, has_bad_map_flags};
 
 use crate::arguments::{is_unaligned, long};
 use crate::request::Request;
@@ -24,14 +24,14 @@ const ALL_RIGHTS: u64 = 7;
 
 /// brk(2).
 pub fn brk(regs: &Regs) -> Request
-    ensures { brk_row regs.now ≡ Done (Ok result) }
+    ensures { decoded_brk regs.now ≡ Done (Ok result) }
 {
     Request::Brk { a: long(regs, 0) }
 }
 
 /// munmap(2): EINVAL for an address of no page, an empty range, or one that passes the end of all pages.
 pub fn munmap(regs: &Regs) -> Result<Request, Errno>
-    ensures { munmap_row regs.now ≡ Done result }
+    ensures { decoded_munmap regs.now ≡ Done result }
 {
     let a = long(regs, 0);
     let len = long(regs, 1);
@@ -43,7 +43,7 @@ pub fn munmap(regs: &Regs) -> Result<Request, Errno>
 
 /// mmap(2): EINVAL for an empty range, unknown rights, flags that aren't built, or a fixed address of no page.
 pub fn mmap(regs: &Regs) -> Result<Request, Errno>
-    ensures { mmap_row regs.now ≡ Done result }
+    ensures { decoded_mmap regs.now ≡ Done result }
 {
     let a = long(regs, 0);
     let len = long(regs, 1);
@@ -62,7 +62,7 @@ pub fn mmap(regs: &Regs) -> Result<Request, Errno>
 
 /// mprotect(2): EINVAL for an address of no page or unknown rights.
 pub fn mprotect(regs: &Regs) -> Result<Request, Errno>
-    ensures { mprotect_row regs.now ≡ Done result }
+    ensures { decoded_mprotect regs.now ≡ Done result }
 {
     let a = long(regs, 0);
     let prot = long(regs, 2);

@@ -2,7 +2,7 @@
 ghost use Rattle.std.specs.Prelude.{◌≡◌};
 ghost use Rattle.kr_calls.specs.Arguments.{has_other};
 ghost use Rattle.kr_calls.specs.Decodes.{Decodes, WantsForTexts};
-ghost use Rattle.kr_calls.specs.Decoding.{mkdirat_row, mkdirat_with, unlinkat_row, unlinkat_with, symlinkat_row, symlinkat_with, link_flags, linkat_row, linkat_with, remove_flags, renameat2_row, renameat2_with, chdir_row, chroot_row, fchmodat_row, fchmodat_with, fchownat_row, fchownat_with, execve_row, execve_with};
+ghost use Rattle.kr_calls.specs.Decoding.{decoded_mkdirat, mkdirat_with, decoded_unlinkat, unlinkat_with, decoded_symlinkat, symlinkat_with, link_flags, decoded_linkat, linkat_with, remove_flags, decoded_renameat2, renameat2_with, decoded_chdir, decoded_chroot, decoded_fchmodat, fchmodat_with, decoded_fchownat, fchownat_with, decoded_execve, execve_with};
 
 use crate::arguments::{allows_empty_path, has_other, has_other_stat_flag, int, long, word};
 use crate::fault::CallFault;
@@ -14,8 +14,8 @@ use rv_mem::{Regs, Space};
 
 /// mkdirat(2).
 pub fn mkdirat<const M: u8>(regs: &Regs, mem: &mut Space<M>) -> Result<Request, CallFault>
-    ensures decoded { Decodes result (mkdirat_row regs.now) mem.old mem.new }
-    ensures wanting { WantsForTexts result (mkdirat_row regs.now) }
+    ensures decoded { Decodes result (decoded_mkdirat regs.now) mem.old mem.new }
+    ensures wanting { WantsForTexts result (decoded_mkdirat regs.now) }
     ensures pages { mem.new.pages ≡ mem.old.pages }
 {
     match path(mem, long(regs, 1), false) {
@@ -37,8 +37,8 @@ fn mkdirat_with(regs: &Regs, path: Bytes) -> Request
 
 /// unlinkat(2): EINVAL for a flag other than AT_REMOVEDIR.
 pub fn unlinkat<const M: u8>(regs: &Regs, mem: &mut Space<M>) -> Result<Request, CallFault>
-    ensures decoded { Decodes result (unlinkat_row regs.now) mem.old mem.new }
-    ensures wanting { WantsForTexts result (unlinkat_row regs.now) }
+    ensures decoded { Decodes result (decoded_unlinkat regs.now) mem.old mem.new }
+    ensures wanting { WantsForTexts result (decoded_unlinkat regs.now) }
     ensures pages { mem.new.pages ≡ mem.old.pages }
 {
     if has_other_remove_flag(word(regs, 2)) {
@@ -63,8 +63,8 @@ fn unlinkat_with(regs: &Regs, path: Bytes) -> Request
 
 /// chdir(2).
 pub fn chdir<const M: u8>(regs: &Regs, mem: &mut Space<M>) -> Result<Request, CallFault>
-    ensures decoded { Decodes result (chdir_row regs.now) mem.old mem.new }
-    ensures wanting { WantsForTexts result (chdir_row regs.now) }
+    ensures decoded { Decodes result (decoded_chdir regs.now) mem.old mem.new }
+    ensures wanting { WantsForTexts result (decoded_chdir regs.now) }
     ensures pages { mem.new.pages ≡ mem.old.pages }
 {
     match path(mem, long(regs, 0), false) {
@@ -75,8 +75,8 @@ pub fn chdir<const M: u8>(regs: &Regs, mem: &mut Space<M>) -> Result<Request, Ca
 
 /// chroot(2).
 pub fn chroot<const M: u8>(regs: &Regs, mem: &mut Space<M>) -> Result<Request, CallFault>
-    ensures decoded { Decodes result (chroot_row regs.now) mem.old mem.new }
-    ensures wanting { WantsForTexts result (chroot_row regs.now) }
+    ensures decoded { Decodes result (decoded_chroot regs.now) mem.old mem.new }
+    ensures wanting { WantsForTexts result (decoded_chroot regs.now) }
     ensures pages { mem.new.pages ≡ mem.old.pages }
 {
     match path(mem, long(regs, 0), false) {
@@ -87,8 +87,8 @@ pub fn chroot<const M: u8>(regs: &Regs, mem: &mut Space<M>) -> Result<Request, C
 
 /// fchmodat(2).
 pub fn fchmodat<const M: u8>(regs: &Regs, mem: &mut Space<M>) -> Result<Request, CallFault>
-    ensures decoded { Decodes result (fchmodat_row regs.now) mem.old mem.new }
-    ensures wanting { WantsForTexts result (fchmodat_row regs.now) }
+    ensures decoded { Decodes result (decoded_fchmodat regs.now) mem.old mem.new }
+    ensures wanting { WantsForTexts result (decoded_fchmodat regs.now) }
     ensures pages { mem.new.pages ≡ mem.old.pages }
 {
     match path(mem, long(regs, 1), false) {
@@ -110,8 +110,8 @@ fn fchmodat_with(regs: &Regs, path: Bytes) -> Request
 
 /// execve(2). Its lists are read when it is carried out.
 pub fn execve<const M: u8>(regs: &Regs, mem: &mut Space<M>) -> Result<Request, CallFault>
-    ensures decoded { Decodes result (execve_row regs.now) mem.old mem.new }
-    ensures wanting { WantsForTexts result (execve_row regs.now) }
+    ensures decoded { Decodes result (decoded_execve regs.now) mem.old mem.new }
+    ensures wanting { WantsForTexts result (decoded_execve regs.now) }
     ensures pages { mem.new.pages ≡ mem.old.pages }
 {
     // It has no flag by which an empty path could mean a descriptor.
@@ -135,8 +135,8 @@ fn execve_with(regs: &Regs, path: Bytes) -> Request
 
 /// fchownat(2): EINVAL for an unknown flag. With AT_EMPTY_PATH the path may be empty.
 pub fn fchownat<const M: u8>(regs: &Regs, mem: &mut Space<M>) -> Result<Request, CallFault>
-    ensures decoded { Decodes result (fchownat_row regs.now) mem.old mem.new }
-    ensures wanting { WantsForTexts result (fchownat_row regs.now) }
+    ensures decoded { Decodes result (decoded_fchownat regs.now) mem.old mem.new }
+    ensures wanting { WantsForTexts result (decoded_fchownat regs.now) }
     ensures pages { mem.new.pages ≡ mem.old.pages }
 {
     let flags = word(regs, 4);
@@ -165,8 +165,8 @@ fn fchownat_with(regs: &Regs, path: Bytes) -> Request
 
 /// symlinkat(2). The text of the link is read first.
 pub fn symlinkat<const M: u8>(regs: &Regs, mem: &mut Space<M>) -> Result<Request, CallFault>
-    ensures decoded { Decodes result (symlinkat_row regs.now) mem.old mem.new }
-    ensures wanting { WantsForTexts result (symlinkat_row regs.now) }
+    ensures decoded { Decodes result (decoded_symlinkat regs.now) mem.old mem.new }
+    ensures wanting { WantsForTexts result (decoded_symlinkat regs.now) }
     ensures pages { mem.new.pages ≡ mem.old.pages }
 {
     match two_texts(mem, long(regs, 0), long(regs, 2)) {
@@ -188,8 +188,8 @@ fn symlinkat_with(regs: &Regs, text: Bytes, path: Bytes) -> Request
 
 /// linkat(2): EINVAL for a flag other than AT_SYMLINK_FOLLOW.
 pub fn linkat<const M: u8>(regs: &Regs, mem: &mut Space<M>) -> Result<Request, CallFault>
-    ensures decoded { Decodes result (linkat_row regs.now) mem.old mem.new }
-    ensures wanting { WantsForTexts result (linkat_row regs.now) }
+    ensures decoded { Decodes result (decoded_linkat regs.now) mem.old mem.new }
+    ensures wanting { WantsForTexts result (decoded_linkat regs.now) }
     ensures pages { mem.new.pages ≡ mem.old.pages }
 {
     if has_other_link_flag(word(regs, 4)) {
@@ -216,8 +216,8 @@ fn linkat_with(regs: &Regs, old: Bytes, new: Bytes) -> Request
 
 /// renameat2(2): EINVAL for any flag.
 pub fn renameat2<const M: u8>(regs: &Regs, mem: &mut Space<M>) -> Result<Request, CallFault>
-    ensures decoded { Decodes result (renameat2_row regs.now) mem.old mem.new }
-    ensures wanting { WantsForTexts result (renameat2_row regs.now) }
+    ensures decoded { Decodes result (decoded_renameat2 regs.now) mem.old mem.new }
+    ensures wanting { WantsForTexts result (decoded_renameat2 regs.now) }
     ensures pages { mem.new.pages ≡ mem.old.pages }
 {
     if has_rename_flag(word(regs, 4)) {

@@ -1,7 +1,7 @@
 //! Calls on processes.
 ghost use Rattle.std.specs.Prelude.{◌≡◌, Ok};
 ghost use Rattle.rv_mem.specs.Actions.{Done};
-ghost use Rattle.kr_calls.specs.Decoding.{getcwd_row, exit_row, exit_group_row, uname_row, clone_row, wait4_row};
+ghost use Rattle.kr_calls.specs.Decoding.{decoded_getcwd, decoded_exit, decoded_exit_group, decoded_uname, decoded_clone, decoded_wait4};
 
 use crate::arguments::{has_other, int, long, word};
 use crate::request::Request;
@@ -13,7 +13,7 @@ const WAIT_FLAGS: u32 = 0xB;
 
 /// getcwd(2).
 pub fn getcwd(regs: &Regs) -> Request
-    ensures { getcwd_row regs.now ≡ Done (Ok result) }
+    ensures { decoded_getcwd regs.now ≡ Done (Ok result) }
 {
     Request::Getcwd {
         buf: long(regs, 0),
@@ -23,28 +23,28 @@ pub fn getcwd(regs: &Regs) -> Request
 
 /// exit(2).
 pub fn exit(regs: &Regs) -> Request
-    ensures { exit_row regs.now ≡ Done (Ok result) }
+    ensures { decoded_exit regs.now ≡ Done (Ok result) }
 {
     Request::Exit { code: int(regs, 0) }
 }
 
 /// exit_group(2).
 pub fn exit_group(regs: &Regs) -> Request
-    ensures { exit_group_row regs.now ≡ Done (Ok result) }
+    ensures { decoded_exit_group regs.now ≡ Done (Ok result) }
 {
     Request::ExitGroup { code: int(regs, 0) }
 }
 
 /// uname(2).
 pub fn uname(regs: &Regs) -> Request
-    ensures { uname_row regs.now ≡ Done (Ok result) }
+    ensures { decoded_uname regs.now ≡ Done (Ok result) }
 {
     Request::Uname { buf: long(regs, 0) }
 }
 
 /// clone(2), whose flags are tested when it is carried out. Its third and fourth argument aren't used.
 pub fn clone(regs: &Regs) -> Request
-    ensures { clone_row regs.now ≡ Done (Ok result) }
+    ensures { decoded_clone regs.now ≡ Done (Ok result) }
 {
     Request::Clone {
         flags: long(regs, 0),
@@ -55,7 +55,7 @@ pub fn clone(regs: &Regs) -> Request
 
 /// wait4(2): EINVAL for an unknown flag.
 pub fn wait4(regs: &Regs) -> Result<Request, Errno>
-    ensures { wait4_row regs.now ≡ Done result }
+    ensures { decoded_wait4 regs.now ≡ Done result }
 {
     if has_other(word(regs, 2), WAIT_FLAGS) {
         return Err(Errno::EINVAL);

@@ -4,11 +4,12 @@ ghost use Rattle.kr_calls.specs.Decodes.{Decodes, Finds, WantsForTexts, named_te
 ghost use Rattle.kr_calls.specs.Decoding.{text_read, texts_read};
 
 use crate::fault::CallFault;
+use rv_mem::below::pr_base::limits::PATH_MAX;
 use rv_mem::below::pr_base::{Bytes, Errno};
 use rv_mem::{Space, TextFault};
 
 /// The most bytes of a path or text, its zero among them.
-const TEXT_LIMIT: u32 = 4096;
+const TEXT_LIMIT: u32 = PATH_MAX as u32;
 
 /// A path: EFAULT where it isn't readable, ENAMETOOLONG, then ENOENT where it is empty and may not be.
 pub fn path<const M: u8>(

@@ -25,5 +25,5 @@ returns-in-Some-clause-performs g c = λ n table some.
 pub returns-in-None-clause-performs : goal.returns-in-None-clause-performs
 returns-in-None-clause-performs g c = λ n table some.
     let k = known image_layout c.args.pid (meaning c.args.state.now) in
-    by-refusal (target_mounts c.args.target.now) c.args.pid _ c.args.state.now c.args.state.now c.refused.result c.requires.sound.pids ENOENT
+    by-refusal (target_mounts c.args.target.now) c.args.pid _ c.args.state.now c.args.state.now c.refused.result c.requires.caller.sound.pids ENOENT
     (not-found n table c.args.pid c.args.state.now c.args.target.now (chdir_row k) c.in-None.is) c.refused.ensures refl

@@ -28,10 +28,7 @@ returns-in_default-opened-clause-performs g c = λ some.
 pub enter-requires : goal.enter-requires
 enter-requires g c = (
   lit< tt,
-  (
-    c.requires.sound,
-    (c.requires.lives, place-there c.args.state.now c.requires.sound c.args.pid c.in-Some.number c.in-Some-opened.opened.now c.in-Some-place.place (sym c.in-Some-opened.ensures) c.in-Some-place.is),
-  ),
+  (c.requires, place-there c.args.state.now c.requires.sound c.args.pid c.in-Some.number c.in-Some-opened.opened.now c.in-Some-place.place (sym c.in-Some-opened.ensures) c.in-Some-place.is),
 )
 
 pub returns-in-Some-place-clause-performs : goal.returns-in-Some-place-clause-performs

@@ -22,11 +22,11 @@ replace_executable-requires g c =
     let means = loads.2 mounts in (
       omega arith,
       (
-        c.lawful_states_are_sound.ensures ready.number ready.table c.replace_image.new.state (subst (IsLawful ready.number ready.table) (sym means) lawful) loads.3,
-        (
-          subst (λ (u : State g.row.T.Denot Image). IsSome (process c.args.pid u)) (sym means) lives,
-          subst (λ (u : State g.row.T.Denot Image). IsSome (inode u.tree (inode_of plan.place.host))) (sym means) (object-there s.tree plan.place.host ready.stands.object),
-        ),
+        record {
+          sound = c.lawful_states_are_sound.ensures ready.number ready.table c.replace_image.new.state (subst (IsLawful ready.number ready.table) (sym means) lawful) loads.3;
+          lives = subst (λ (u : State g.row.T.Denot Image). IsSome (process c.args.pid u)) (sym means) lives;
+        },
+        subst (λ (u : State g.row.T.Denot Image). IsSome (inode u.tree (inode_of plan.place.host))) (sym means) (object-there s.tree plan.place.host ready.stands.object),
       ),
     )
 

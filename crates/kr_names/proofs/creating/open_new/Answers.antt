@@ -25,14 +25,14 @@ use Rattle.kr_names.proofs.creating.open_new.Goals as goal
 
 pub returns-in-Err-clause-performs : goal.returns-in-Err-clause-performs
 returns-in-Err-clause-performs g c = λ mounts at some.
-    by-refusal mounts c.args.pid _ c.args.state.now _ c.refused.result c.requires.sound.pids c.in-Err.errno (c.in-Err.ensures.row c.args.pid _) c.refused.ensures refl
+    by-refusal mounts c.args.pid _ c.args.state.now _ c.refused.result c.requires.caller.sound.pids c.in-Err.errno (c.in-Err.ensures.row c.args.pid _) c.refused.ensures refl
 
 pub returns-in_default-clause-performs : goal.returns-in_default-clause-performs
 returns-in_default-clause-performs g c = λ mounts at some.
     let s = meaning c.args.state.now in
     let k = known image_layout c.args.pid s in
-    by-refusal mounts c.args.pid _ c.args.state.now _ c.refused-in_default.result c.requires.sound.pids EMFILE
-    (new-full s c.args.pid c.args.flags c.args.mode c.requires.lives c.args.dir c.args.name.now c.in-Ok.dir (c.in-Ok.ensures.row c.args.pid) (sym c.lowest_free.ensures ∙ c.in_default.is)) c.refused-in_default.ensures refl
+    by-refusal mounts c.args.pid _ c.args.state.now _ c.refused-in_default.result c.requires.caller.sound.pids EMFILE
+    (new-full s c.args.pid c.args.flags c.args.mode c.requires.caller.lives c.args.dir c.args.name.now c.in-Ok.dir (c.in-Ok.ensures.row c.args.pid) (sym c.lowest_free.ensures ∙ c.in_default.is)) c.refused-in_default.ensures refl
 
 pub returns-in-Err-Full-clause-performs : goal.returns-in-Err-Full-clause-performs
 returns-in-Err-Full-clause-performs g c = λ mounts at some.
@@ -40,8 +40,8 @@ returns-in-Err-Full-clause-performs g c = λ mounts at some.
     let k = known image_layout c.args.pid s in
     let full = ap (λ b. has_no_room (length b) k) (sym c.new.ensures)
     ∙ is-full _ _ _ (ap (λ b. is_too_big (RegularFile b)) c.new.ensures) c.add_node.ensures.full (c.in-Err-Full.is ∙ ap (λ e. Err e) c.in-Err-Full.field-0-is) in
-    by-refusal mounts c.args.pid _ c.args.state.now c.add_node.new.self c.refused-in-Err-Full.result c.requires.sound.pids ENOSPC
-    (new-crowded s c.args.pid c.args.flags c.args.mode c.requires.lives c.args.dir c.args.name.now c.in-Ok.dir (c.in-Ok.ensures.row c.args.pid) c.in-Some._fd (sym c.in-Some.ensures) full)
+    by-refusal mounts c.args.pid _ c.args.state.now c.add_node.new.self c.refused-in-Err-Full.result c.requires.caller.sound.pids ENOSPC
+    (new-crowded s c.args.pid c.args.flags c.args.mode c.requires.caller.lives c.args.dir c.args.name.now c.in-Ok.dir (c.in-Ok.ensures.row c.args.pid) c.in-Some._fd (sym c.in-Some.ensures) full)
     c.refused-in-Err-Full.ensures c.in-Err-Full.ensures.err
 
 pub open-requires : goal.open-requires
@@ -60,17 +60,17 @@ open-requires g c =
     let S : ℕ → Type 0 = λ n. IsSome (inode c.add_node.new.self.tree n) in (
       lit< tt,
       (
-        made-sound none c.args.pid c.in-Ok.dir c.args.name.now c.unmasked.result c.args.state.now.user.uid c.args.state.now.user.gid c.args.state.now c.add_node.new.self (made none) c.requires.view (c.add_node.ensures.served c.requires.sound.served) c.requires.lives
-            c.in-Ok.ensures.takes.1 free.0 free.1 c.are_bytes.ensures c.unmasked.ensures.small room,
+        record {
+          sound = made-sound none c.args.pid c.in-Ok.dir c.args.name.now c.unmasked.result c.args.state.now.user.uid c.args.state.now.user.gid c.args.state.now c.add_node.new.self (made none) c.requires.view (c.add_node.ensures.served c.requires.caller.sound.served) c.requires.caller.lives
+              c.in-Ok.ensures.takes.1 free.0 free.1 c.are_bytes.ensures c.unmasked.ensures.small room;
+          lives = made-lives none c.args.pid c.in-Ok.dir c.args.name.now c.unmasked.result c.args.state.now.user.uid c.args.state.now.user.gid c.args.state.now c.add_node.new.self (made none) c.requires.caller.lives;
+        },
         (
-          made-lives none c.args.pid c.in-Ok.dir c.args.name.now c.unmasked.result c.args.state.now.user.uid c.args.state.now.user.gid c.args.state.now c.add_node.new.self (made none) c.requires.lives,
+          subst P (sym c.opened_as-opened.ensures) refl,
           (
-            subst P (sym c.opened_as-opened.ensures) refl,
-            (
-              subst R (sym (made-files none c.args.pid c.in-Ok.dir c.args.name.now c.unmasked.result c.args.state.now.user.uid c.args.state.now.user.gid c.args.state.now c.add_node.new.self (made none))) c.requires.files,
-              subst Q (sym c.opened_as-opened.ensures)
-                  (subst S (sym c.in-Ok-add_node.ensures.number) (made-there none c.args.pid c.in-Ok.dir c.args.name.now c.unmasked.result c.args.state.now.user.uid c.args.state.now.user.gid c.args.state.now c.add_node.new.self (made none))),
-            ),
+            subst R (sym (made-files none c.args.pid c.in-Ok.dir c.args.name.now c.unmasked.result c.args.state.now.user.uid c.args.state.now.user.gid c.args.state.now c.add_node.new.self (made none))) c.requires.files,
+            subst Q (sym c.opened_as-opened.ensures)
+                (subst S (sym c.in-Ok-add_node.ensures.number) (made-there none c.args.pid c.in-Ok.dir c.args.name.now c.unmasked.result c.args.state.now.user.uid c.args.state.now.user.gid c.args.state.now c.add_node.new.self (made none))),
           ),
         ),
       ),
@@ -104,8 +104,8 @@ returns-in-Ok-open-clause-performs g c = λ mounts at some.
     let add = λ (m : ℕ). AddNode c.in-Ok.dir c.args.name.now m c.args.state.now.user.uid c.args.state.now.user.gid (RegularFile []) in
     let open_ = OpenFile c.in-Ok-open.fd (has c.args.flags o_cloexec) OfDirectory o in
     let same = made-lowest mounts c.args.pid c.in-Ok.dir c.args.name.now c.unmasked.result c.args.state.now.user.uid c.args.state.now.user.gid c.args.state.now c.add_node.new.self (made mounts) in
-    by-reply mounts c.args.pid _ c.args.state.now c.open.new.self c.number.result c.requires.sound.pids (answers c.in-Ok-open.fd (add (unmasked k c.args.mode) ∷ open_ ∷ []))
-    (new-opens s c.args.pid c.args.flags c.args.mode c.requires.lives c.args.dir c.args.name.now c.in-Ok.dir (c.in-Ok.ensures.row c.args.pid) c.in-Ok-open.fd (sym same ∙ c.in-Ok-open.ensures.lowest) room)
+    by-reply mounts c.args.pid _ c.args.state.now c.open.new.self c.number.result c.requires.caller.sound.pids (answers c.in-Ok-open.fd (add (unmasked k c.args.mode) ∷ open_ ∷ []))
+    (new-opens s c.args.pid c.args.flags c.args.mode c.requires.caller.lives c.args.dir c.args.name.now c.in-Ok.dir (c.in-Ok.ensures.row c.args.pid) c.in-Ok-open.fd (sym same ∙ c.in-Ok-open.ensures.lowest) room)
     c.number.ensures
     (opened-makes mounts c.args.pid c.args.flags c.in-Ok-open.fd OfDirectory c.args.mount o _ _ c.add_node.new.self c.open.new.self c.closes_on_exec.ensures at is c.in-Ok-open.ensures.makes
     ∙ ap (applied images mounts c.args.pid open_) (made mounts ∙ ap (λ m. applied images mounts c.args.pid (add m) (meaning c.args.state.now)) c.unmasked.ensures.bits))

@@ -29,7 +29,7 @@ returns-then-wants_directory-clause-performs g c = λ mounts n found known_ some
     let dir = entry_dir (option_map entry_told c.args.entry) in
     let name = entry_name (option_map entry_told c.args.entry) in
     let o = opens_as File (host.Node c.args.ino) dir name c.args.flags in
-    by-refusal mounts c.args.pid _ c.args.state.now _ c.refused.result c.requires.sound.pids ENOTDIR
+    by-refusal mounts c.args.pid _ c.args.state.now _ c.refused.result c.requires.caller.sound.pids ENOTDIR
     (file-wanted k c.args.flags c.args.ino n dir name (sym c.wants_directory.ensures ∙ c.if-wants_directory.true)) c.refused.ensures refl
 
 pub returns-then-not-has_rights-clause-performs : goal.returns-then-not-has_rights-clause-performs
@@ -39,7 +39,7 @@ returns-then-not-has_rights-clause-performs g c = λ mounts n found known_ some.
     let dir = entry_dir (option_map entry_told c.args.entry) in
     let name = entry_name (option_map entry_told c.args.entry) in
     let o = opens_as File (host.Node c.args.ino) dir name c.args.flags in
-    by-refusal mounts c.args.pid _ c.args.state.now _ c.refused-then-not-has_rights.result c.requires.sound.pids EACCES
+    by-refusal mounts c.args.pid _ c.args.state.now _ c.refused-then-not-has_rights.result c.requires.caller.sound.pids EACCES
     (file-refused k c.args.flags c.args.ino n dir name (sym c.wants_directory.ensures ∙ c.if-wants_directory.false) (sym (c.has_rights.ensures c.args.pid n known_) ∙ c.if-not-has_rights.true)) c.refused-then-not-has_rights.ensures refl
 
 pub returns-in-Err-Full-clause-performs : goal.returns-in-Err-Full-clause-performs
@@ -49,9 +49,9 @@ returns-in-Err-Full-clause-performs g c = λ mounts n found known_ some.
     let dir = entry_dir (option_map entry_told c.args.entry) in
     let name = entry_name (option_map entry_told c.args.entry) in
     let o = opens_as File (host.Node c.args.ino) dir name c.args.flags in
-    by-refusal mounts c.args.pid _ c.args.state.now c.open.new.self c.refused-in-Err-Full.result c.requires.sound.pids EMFILE
+    by-refusal mounts c.args.pid _ c.args.state.now c.open.new.self c.refused-in-Err-Full.result c.requires.caller.sound.pids EMFILE
     (file-opens k c.args.flags c.args.ino n dir name (sym c.wants_directory.ensures ∙ c.if-wants_directory.false) (sym (c.has_rights.ensures c.args.pid n known_) ∙ c.if-not-has_rights.false)
-    ∙ under-full s c.args.pid c.args.flags c.requires.lives OfFound o (cut_after c.args.flags c.args.ino) (c.open.ensures.full.0 (c.in-Err-Full.is ∙ ap (λ e. Err e) c.in-Err-Full.field-0-is)))
+    ∙ under-full s c.args.pid c.args.flags c.requires.caller.lives OfFound o (cut_after c.args.flags c.args.ino) (c.open.ensures.full.0 (c.in-Err-Full.is ∙ ap (λ e. Err e) c.in-Err-Full.field-0-is)))
     c.refused-in-Err-Full.ensures c.in-Err-Full.ensures.err.same
 
 pub set_size-requires : goal.set_size-requires
@@ -87,9 +87,9 @@ returns-in-Ok-set_size-clause-performs g c = λ mounts n found known_ some.
     sym (c.opened_as-opened.ensures ∙ ap (λ h. in_mount c.args.place.mount (opens_as File h c.entry_dir-dir.result c.in-Ok.name c.args.flags)) c.requires.host
     ∙ ap (λ d. in_mount c.args.place.mount (opens_as File (host.Node c.args.ino) d c.in-Ok.name c.args.flags)) c.entry_dir-dir.ensures
     ∙ ap (λ n. in_mount c.args.place.mount (opens_as File (host.Node c.args.ino) (entry_dir (option_map entry_told c.args.entry)) n c.args.flags)) c.in-Ok.ensures) in
-    by-reply mounts c.args.pid _ c.args.state.now c.set_size.new.self c.number.result c.requires.sound.pids (answers c.in-Ok-open.fd (OpenFile c.in-Ok-open.fd (has c.args.flags o_cloexec) OfFound o ∷ SetSize c.args.ino 0 ∷ []))
+    by-reply mounts c.args.pid _ c.args.state.now c.set_size.new.self c.number.result c.requires.caller.sound.pids (answers c.in-Ok-open.fd (OpenFile c.in-Ok-open.fd (has c.args.flags o_cloexec) OfFound o ∷ SetSize c.args.ino 0 ∷ []))
     (file-opens k c.args.flags c.args.ino n dir name (sym c.wants_directory.ensures ∙ c.if-wants_directory.false) (sym (c.has_rights.ensures c.args.pid n known_) ∙ c.if-not-has_rights.false)
-    ∙ under-goes s c.args.pid c.args.flags c.requires.lives OfFound o (cut_after c.args.flags c.args.ino) c.in-Ok-open.fd c.in-Ok-open.ensures.lowest
+    ∙ under-goes s c.args.pid c.args.flags c.requires.caller.lives OfFound o (cut_after c.args.flags c.args.ino) c.in-Ok-open.fd c.in-Ok-open.ensures.lowest
     ∙ ap (λ b. done c.in-Ok-open.fd (OpenFile c.in-Ok-open.fd (has c.args.flags o_cloexec) OfFound o ∷ (if b then SetSize c.args.ino 0 ∷ [] else []))) (sym c.truncates.ensures ∙ c.if-truncates.true))
     c.number.ensures (c.in-Ok-set_size.ensures.ok c.args.pid mounts ∙ ap (applied images mounts c.args.pid (SetSize c.args.ino 0)) (opened-makes mounts c.args.pid c.args.flags c.in-Ok-open.fd OfFound c.args.place.mount o _ _ c.args.state.now c.open.new.self c.closes_on_exec.ensures found at c.in-Ok-open.ensures.makes))
 
@@ -104,8 +104,8 @@ returns-else-truncates-clause-performs g c = λ mounts n found known_ some.
     sym (c.opened_as-opened.ensures ∙ ap (λ h. in_mount c.args.place.mount (opens_as File h c.entry_dir-dir.result c.in-Ok.name c.args.flags)) c.requires.host
     ∙ ap (λ d. in_mount c.args.place.mount (opens_as File (host.Node c.args.ino) d c.in-Ok.name c.args.flags)) c.entry_dir-dir.ensures
     ∙ ap (λ n. in_mount c.args.place.mount (opens_as File (host.Node c.args.ino) (entry_dir (option_map entry_told c.args.entry)) n c.args.flags)) c.in-Ok.ensures) in
-    by-reply mounts c.args.pid _ c.args.state.now c.open.new.self c.number-else-truncates.result c.requires.sound.pids (answers c.in-Ok-open.fd (OpenFile c.in-Ok-open.fd (has c.args.flags o_cloexec) OfFound o ∷ []))
+    by-reply mounts c.args.pid _ c.args.state.now c.open.new.self c.number-else-truncates.result c.requires.caller.sound.pids (answers c.in-Ok-open.fd (OpenFile c.in-Ok-open.fd (has c.args.flags o_cloexec) OfFound o ∷ []))
     (file-opens k c.args.flags c.args.ino n dir name (sym c.wants_directory.ensures ∙ c.if-wants_directory.false) (sym (c.has_rights.ensures c.args.pid n known_) ∙ c.if-not-has_rights.false)
-    ∙ under-goes s c.args.pid c.args.flags c.requires.lives OfFound o (cut_after c.args.flags c.args.ino) c.in-Ok-open.fd c.in-Ok-open.ensures.lowest
+    ∙ under-goes s c.args.pid c.args.flags c.requires.caller.lives OfFound o (cut_after c.args.flags c.args.ino) c.in-Ok-open.fd c.in-Ok-open.ensures.lowest
     ∙ ap (λ b. done c.in-Ok-open.fd (OpenFile c.in-Ok-open.fd (has c.args.flags o_cloexec) OfFound o ∷ (if b then SetSize c.args.ino 0 ∷ [] else []))) (sym c.truncates.ensures ∙ c.if-truncates.false))
     c.number-else-truncates.ensures (opened-makes mounts c.args.pid c.args.flags c.in-Ok-open.fd OfFound c.args.place.mount o _ _ c.args.state.now c.open.new.self c.closes_on_exec.ensures found at c.in-Ok-open.ensures.makes)

@@ -15,7 +15,7 @@ returns-then-makes_anew-clause-performs g c = λ mounts found some.
     let s = meaning c.args.state.now in
     let k = known image_layout c.args.pid s in
     let l = looked_told c.args.looked in
-    by-refusal mounts c.args.pid _ c.args.state.now _ c.refused.result c.requires.sound.pids EEXIST (if-true _ _ _ (sym c.makes_anew.ensures ∙ c.if-makes_anew.true)) c.refused.ensures refl
+    by-refusal mounts c.args.pid _ c.args.state.now _ c.refused.result c.requires.caller.sound.pids EEXIST (if-true _ _ _ (sym c.makes_anew.ensures ∙ c.if-makes_anew.true)) c.refused.ensures refl
 
 pub returns-else-makes_anew-clause-performs : goal.returns-else-makes_anew-clause-performs
 returns-else-makes_anew-clause-performs g c = λ mounts found some.

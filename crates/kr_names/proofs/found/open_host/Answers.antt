@@ -33,5 +33,5 @@ returns-else-is_process_directory-clause-performs g c = λ mounts found some.
     let s = meaning c.args.state.now in
     let k = known image_layout c.args.pid s in
     let l = looked_told c.args.looked in
-    by-refusal mounts c.args.pid _ c.args.state.now _ c.refused.result c.requires.sound.pids ELOOP
+    by-refusal mounts c.args.pid _ c.args.state.now _ c.refused.result c.requires.caller.sound.pids ELOOP
     (ap (λ h. open_host k c.args.flags l h) c.in-Proc.is ∙ if-false _ _ _ (sym c.is_process_directory.ensures ∙ c.if-is_process_directory.false)) c.refused.ensures refl

@@ -45,7 +45,7 @@ returns-then-may_be_linked-clause-performs g c = λ mounts found some.
     let k = known image_layout c.args.pid s in
     let l = looked_told c.args.looked in
     let x = passed may_be_linked c.args.state.now.tree c.args.ino (sym c.may_be_linked.ensures ∙ c.if-may_be_linked.true) in
-    by-refusal mounts c.args.pid _ c.args.state.now _ c.refused.result c.requires.sound.pids ELOOP
+    by-refusal mounts c.args.pid _ c.args.state.now _ c.refused.result c.requires.caller.sound.pids ELOOP
     (opens-link k c.args.flags l c.args.ino x.0.node (node-known c.args.pid s c.args.ino x.0 x.1) x.2 (sym (tested is_file c.args.state.now.tree c.args.ino x.0 x.1) ∙ sym c.is_file.ensures ∙ c.if-is_file.false))
     c.refused.ensures refl
 
@@ -55,5 +55,5 @@ returns-else-may_be_linked-clause-performs g c = λ mounts found some.
     let k = known image_layout c.args.pid s in
     let l = looked_told c.args.looked in
     let none = nothing c.args.state.now.tree c.args.ino (sym c.is_directory.ensures ∙ c.if-is_directory.false) (sym c.is_file.ensures ∙ c.if-is_file.false) (sym c.may_be_linked.ensures ∙ c.if-may_be_linked.false) in
-    by-refusal mounts c.args.pid _ c.args.state.now _ c.refused-else-may_be_linked.result c.requires.sound.pids ENOENT
+    by-refusal mounts c.args.pid _ c.args.state.now _ c.refused-else-may_be_linked.result c.requires.caller.sound.pids ENOENT
     (opens-none k c.args.flags l c.args.ino (node-unknown c.args.pid s c.args.ino none)) c.refused-else-may_be_linked.ensures refl

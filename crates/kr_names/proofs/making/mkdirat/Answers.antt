@@ -19,13 +19,13 @@ use Rattle.kr_names.proofs.making.mkdirat.Goals as goal
 pub returns-in-NoName-clause-performs : goal.returns-in-NoName-clause-performs
 returns-in-NoName-clause-performs g c = λ n table some.
     let k = known image_layout c.args.pid (meaning c.args.state.now) in
-    by-refusal (target_mounts c.args.target.now) c.args.pid _ c.args.state.now c.args.state.now c.refused.result c.requires.sound.pids EEXIST
+    by-refusal (target_mounts c.args.target.now) c.args.pid _ c.args.state.now c.args.state.now c.refused.result c.requires.caller.sound.pids EEXIST
     (ap (λ m. mkdirat_row k m c.args.mode) (sym (c.in-NoName.ensures n table c.args.pid (state_numbered n (meaning c.args.state.now))))) c.refused.ensures refl
 
 pub returns-in-Over-clause-performs : goal.returns-in-Over-clause-performs
 returns-in-Over-clause-performs g c = λ n table some.
     let k = known image_layout c.args.pid (meaning c.args.state.now) in
-    by-refusal (target_mounts c.args.target.now) c.args.pid _ c.args.state.now c.args.state.now c.refused-in-Over.result c.requires.sound.pids EEXIST
+    by-refusal (target_mounts c.args.target.now) c.args.pid _ c.args.state.now c.args.state.now c.refused-in-Over.result c.requires.caller.sound.pids EEXIST
     (ap (λ m. mkdirat_row k m c.args.mode) (sym (c.in-Over.ensures n table c.args.pid (state_numbered n (meaning c.args.state.now))))) c.refused-in-Over.ensures refl
 
 pub add_named-requires : goal.add_named-requires
@@ -33,7 +33,7 @@ add_named-requires g c =
     let told = c.in-Makes.ensures (λ _. 0) [] c.args.pid (state_numbered (λ _. 0) (meaning c.args.state.now)) in (
       lit< tt,
       (
-        c.requires.sound,
+        c.requires.caller.sound,
         (
           made-free (λ _. 0) [] c.args.pid (state_numbered (λ _. 0) (meaning c.args.state.now)) c.args.target.now c.in-Makes.dir c.in-Makes.name.now c.in-Makes.slash told c.args.state.now.tree c.requires.free,
           (

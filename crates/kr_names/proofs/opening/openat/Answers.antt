@@ -26,7 +26,7 @@ returns-in_default-clause-performs g c = λ some.
     let table = g.P.Places.mounts c.args.places.now in
     let k = known image_layout c.args.pid (meaning c.args.state.now) in
     let mounts = target_mounts c.args.target.now in
-    by-refusal mounts c.args.pid _ c.args.state.now _ c.refused.result c.requires.lawful.pids ENOENT
+    by-refusal mounts c.args.pid _ c.args.state.now _ c.refused.result c.requires.caller.lawful.pids ENOENT
     (ap (λ x. if_opened x (λ o. openat_row k o c.args.flags c.args.mode)) (sym (ap (λ r. option_map_or (λ o. Opens (opening_told o)) r (WalkFails ENOENT)) (sym (c.in_default.is)) ∙ c.opened.ensures c.args.pid))) c.refused.ensures refl
 
 pub returns-then-excludes-clause-performs : goal.returns-then-excludes-clause-performs
@@ -35,7 +35,7 @@ returns-then-excludes-clause-performs g c = λ some.
     let table = g.P.Places.mounts c.args.places.now in
     let k = known image_layout c.args.pid (meaning c.args.state.now) in
     let mounts = target_mounts c.args.target.now in
-    by-refusal mounts c.args.pid _ c.args.state.now _ c.refused-then-excludes.result c.requires.lawful.pids EEXIST
+    by-refusal mounts c.args.pid _ c.args.state.now _ c.refused-then-excludes.result c.requires.caller.lawful.pids EEXIST
     (ap (λ x. if_opened x (λ o. openat_row k o c.args.flags c.args.mode)) (sym (ap (λ r. option_map_or (λ o. Opens (opening_told o)) r (WalkFails ENOENT)) (sym (c.in-Some.is ∙ ap Some c.in-NoName.is)) ∙ c.opened.ensures c.args.pid)) ∙ ap (λ b. refuse (if b then EEXIST else EISDIR)) (sym c.excludes.ensures ∙ c.if-excludes.true)) c.refused-then-excludes.ensures refl
 
 pub returns-else-excludes-clause-performs : goal.returns-else-excludes-clause-performs
@@ -44,7 +44,7 @@ returns-else-excludes-clause-performs g c = λ some.
     let table = g.P.Places.mounts c.args.places.now in
     let k = known image_layout c.args.pid (meaning c.args.state.now) in
     let mounts = target_mounts c.args.target.now in
-    by-refusal mounts c.args.pid _ c.args.state.now _ c.refused-else-excludes.result c.requires.lawful.pids EISDIR
+    by-refusal mounts c.args.pid _ c.args.state.now _ c.refused-else-excludes.result c.requires.caller.lawful.pids EISDIR
     (ap (λ x. if_opened x (λ o. openat_row k o c.args.flags c.args.mode)) (sym (ap (λ r. option_map_or (λ o. Opens (opening_told o)) r (WalkFails ENOENT)) (sym (c.in-Some.is ∙ ap Some c.in-NoName.is)) ∙ c.opened.ensures c.args.pid)) ∙ ap (λ b. refuse (if b then EEXIST else EISDIR)) (sym c.excludes.ensures ∙ c.if-excludes.false)) c.refused-else-excludes.ensures refl
 
 pub returns-in-Slashed-clause-performs : goal.returns-in-Slashed-clause-performs
@@ -53,7 +53,7 @@ returns-in-Slashed-clause-performs g c = λ some.
     let table = g.P.Places.mounts c.args.places.now in
     let k = known image_layout c.args.pid (meaning c.args.state.now) in
     let mounts = target_mounts c.args.target.now in
-    by-refusal mounts c.args.pid _ c.args.state.now _ c.refused-in-Slashed.result c.requires.lawful.pids EISDIR
+    by-refusal mounts c.args.pid _ c.args.state.now _ c.refused-in-Slashed.result c.requires.caller.lawful.pids EISDIR
     (ap (λ x. if_opened x (λ o. openat_row k o c.args.flags c.args.mode)) (sym (ap (λ r. option_map_or (λ o. Opens (opening_told o)) r (WalkFails ENOENT)) (sym (c.in-Some.is ∙ ap Some c.in-Slashed.is)) ∙ c.opened.ensures c.args.pid))) c.refused-in-Slashed.ensures refl
 
 pub returns-in-Some-found-clause-performs : goal.returns-in-Some-found-clause-performs
@@ -80,15 +80,12 @@ open_found-requires g c =
     let table = g.P.Places.mounts c.args.places.now in (
       lit< tt,
       (
-        sound-of g.P.Places.number (g.P.Places.mounts c.args.places.now) c.args.state.now c.requires.lawful c.requires.served,
+        record { sound = sound-of g.P.Places.number (g.P.Places.mounts c.args.places.now) c.args.state.now c.requires.caller.lawful c.requires.caller.served; lives = c.requires.caller.lives },
         (
-          c.requires.lives,
+          c.requires.files,
           (
-            c.requires.files,
-            (
-              opened-object g.P.Places.number table c.args.pid s c.args.flags c.args.target.now (looked_told c.in-Found.looked) (ap (λ r. option_map_or (λ o. Opens (opening_told o)) r (WalkFails ENOENT)) (sym (c.in-Some.is ∙ ap Some c.in-Found.is)) ∙ c.opened.ensures c.args.pid) c.args.state.now.tree c.requires.found,
-              c.requires.lawful.tree.sound.bytes_limited,
-            ),
+            opened-object g.P.Places.number table c.args.pid s c.args.flags c.args.target.now (looked_told c.in-Found.looked) (ap (λ r. option_map_or (λ o. Opens (opening_told o)) r (WalkFails ENOENT)) (sym (c.in-Some.is ∙ ap Some c.in-Found.is)) ∙ c.opened.ensures c.args.pid) c.args.state.now.tree c.requires.found,
+            c.requires.caller.lawful.tree.sound.bytes_limited,
           ),
         ),
       ),
@@ -111,19 +108,16 @@ open_new-requires g c =
     let P : Host → Type 0 = λ h. next_serial c.args.state.now.tree (inode_of h) + 1 < 2 ^ 64 in (
       lit< tt,
       (
-        record { number = g.P.Places.number; table = g.P.Places.mounts c.args.places.now; lawful = c.requires.lawful; served = c.requires.served },
+        record { number = g.P.Places.number; table = g.P.Places.mounts c.args.places.now; lawful = c.requires.caller.lawful; served = c.requires.caller.served },
         (
-          sound-of g.P.Places.number (g.P.Places.mounts c.args.places.now) c.args.state.now c.requires.lawful c.requires.served,
+          record { sound = sound-of g.P.Places.number (g.P.Places.mounts c.args.places.now) c.args.state.now c.requires.caller.lawful c.requires.caller.served; lives = c.requires.caller.lives },
           (
-            c.requires.lives,
+            new-free g.P.Places.number table c.args.pid s c.args.flags c.args.target.now c.in-New.dir c.in-New.name.now told c.args.state.now.tree c.requires.free,
             (
-              new-free g.P.Places.number table c.args.pid s c.args.flags c.args.target.now c.in-New.dir c.in-New.name.now told c.args.state.now.tree c.requires.free,
+              c.requires.numbers,
               (
-                c.requires.numbers,
-                (
-                  subst P (sym (new-dir g.P.Places.number table c.args.pid s c.args.flags c.args.target.now c.in-New.dir c.in-New.name.now told)) c.requires.serials,
-                  c.requires.files,
-                ),
+                subst P (sym (new-dir g.P.Places.number table c.args.pid s c.args.flags c.args.target.now c.in-New.dir c.in-New.name.now told)) c.requires.serials,
+                c.requires.files,
               ),
             ),
           ),

@@ -11,9 +11,9 @@ perform-requires g c =
     let number = g.P.Places.number in
     let table = g.P.Places.mounts c.args.places.now in
     let s = c.args.state.now in
-    let runs = c.requires.may.runs in
-    let resolved = walks_resolve number table c.args.pid s c.args.request.now c.args.targets.now runs.lasts.lawful runs.served c.requires.lives (are-texts number table s c.args.request.now c.requires.may c.requires.paths) c.requires.along in
-    (lit< tt, (c.requires.kind, (c.requires.given, (runs.lasts.lawful, (runs.served, (c.requires.lives, (resolved, has-numbers number table s c.requires.may)))))))
+    let runs = c.requires.caller.may.runs in
+    let resolved = walks_resolve number table c.args.pid s c.args.request.now c.args.targets.now runs.lasts.lawful runs.served c.requires.caller.lives (are-texts number table s c.args.request.now c.requires.caller.may c.requires.request.paths) c.requires.along in
+    (lit< tt, (c.requires.kind, (c.requires.request.given, (record { lawful = runs.lasts.lawful; served = runs.served; lives = c.requires.caller.lives }, (resolved, has-numbers number table s c.requires.caller.may)))))
 
 pub returns-clause-called : goal.returns-clause-called
 returns-clause-called g c =
@@ -25,9 +25,9 @@ returns-clause-runs g c = λ calls few runs wanted.
     let table = g.P.Places.mounts c.args.places.now in
     let s = c.args.state.now in
     let targets = c.args.targets.now in
-    let own = some-of (model.process c.args.pid (meaning s)) c.requires.lives in
-    let told = resolved_are_told number table c.args.pid s c.args.request.now targets runs.lasts.lawful runs.lasts.lasts.texts c.requires.paths c.requires.named c.requires.along in
+    let own = some-of (model.process c.args.pid (meaning s)) c.requires.caller.lives in
+    let told = resolved_are_told number table c.args.pid s c.args.request.now targets runs.lasts.lawful runs.lasts.lasts.texts c.requires.request.paths c.requires.caller.named c.requires.along in
     record {
-      lasts = performed-last number table calls c.args.pid c.args.request.now targets.first targets.second s c.perform.new.state c.perform.result own.0 c.requires.kind c.perform.ensures.performs wanted few runs.lasts own.1 (c.memory_holds_bytes.ensures own.0 own.1) c.requires.given told;
+      lasts = performed-last number table calls c.args.pid c.args.request.now targets.first targets.second s c.perform.new.state c.perform.result own.0 c.requires.kind c.perform.ensures.performs wanted few runs.lasts own.1 (c.memory_holds_bytes.ensures own.0 own.1) c.requires.request.given told;
       served = c.perform.ensures.served wanted;
     }

@@ -10,4 +10,4 @@ returns-in-Some-clause-performs g c = λ n table dirfd path. subst (λ o. Operat
 pub returns-in-None-clause-performs : goal.returns-in-None-clause-performs
 returns-in-None-clause-performs g c = λ n table dirfd path.
     subst (λ o. OperatesAt n table c.args.pid (call.Mkdirat dirfd path c.args.mode) o c.args.targets.now.second c.args.state.now c.args.state.now c.refused.result) (sym c.in-None.is)
-    (nowhere n table c.args.pid (call.Mkdirat dirfd path c.args.mode) None c.args.targets.now.second c.args.state.now c.refused.result c.requires.sound.pids refl c.refused.ensures)
+    (nowhere n table c.args.pid (call.Mkdirat dirfd path c.args.mode) None c.args.targets.now.second c.args.state.now c.refused.result c.requires.caller.sound.pids refl c.refused.ensures)

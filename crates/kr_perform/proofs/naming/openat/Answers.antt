@@ -10,4 +10,4 @@ returns-in-Some-clause-performs g c = λ dirfd path. subst (λ o. OperatesAt g.P
 pub returns-in-None-clause-performs : goal.returns-in-None-clause-performs
 returns-in-None-clause-performs g c = λ dirfd path.
     subst (λ o. OperatesAt g.P.Places.number (g.P.Places.mounts c.args.places.now) c.args.pid (call.Openat dirfd path c.args.flags c.args.mode) o c.args.targets.now.second c.args.state.now c.args.state.now c.refused.result) (sym c.in-None.is)
-    (nowhere g.P.Places.number (g.P.Places.mounts c.args.places.now) c.args.pid (call.Openat dirfd path c.args.flags c.args.mode) None c.args.targets.now.second c.args.state.now c.refused.result c.requires.lawful.pids refl c.refused.ensures)
+    (nowhere g.P.Places.number (g.P.Places.mounts c.args.places.now) c.args.pid (call.Openat dirfd path c.args.flags c.args.mode) None c.args.targets.now.second c.args.state.now c.refused.result c.requires.caller.lawful.pids refl c.refused.ensures)

@@ -9,8 +9,8 @@ use Rattle.kr_perform.proofs.processes.perform.Goals as goal
 
 pub brk-requires : goal.brk-requires
 brk-requires g c =
-    let view = c.requires.view in
-    (lit< tt, (c.lawful_states_are_sound.ensures view.number view.table c.args.state.now view.lawful view.served, (c.requires.lives, breaks-within view.number view.table (meaning c.args.state.now) c.args.pid view.lawful)))
+    let view = c.requires.caller.view in
+    (lit< tt, (record { sound = c.lawful_states_are_sound.ensures view.number view.table c.args.state.now view.lawful view.served; lives = c.requires.caller.lives }, breaks-within view.number view.table (meaning c.args.state.now) c.args.pid view.lawful))
 
 pub returns-in-Brk-clause-performs : goal.returns-in-Brk-clause-performs
 returns-in-Brk-clause-performs g c = alone c.in-Brk.is (λ _. c.brk.ensures.performs)

@@ -19,7 +19,7 @@ returns-then-not-both-clause-performs g c = λ some.
     c.refused.ensures refl
 
 pub write_unless_null-requires-2 : goal.write_unless_null-requires-2
-write_unless_null-requires-2 g c = let on = c.in-Ok.ensures (done 0 []) in (lit< tt, (on.sound, on.lives))
+write_unless_null-requires-2 g c = let on = c.in-Ok.ensures (done 0 []) in (lit< tt, record { sound = on.sound; lives = on.lives })
 
 pub reap-requires : goal.reap-requires
 reap-requires g c = (lit< tt, (c.in-Ok-write_unless_null.ensures (done 0 [])).sound.served)

@@ -14,7 +14,7 @@ pub returns-then-first-lt-LOWEST_PAGE-clause-performs : goal.returns-then-first-
 returns-then-first-lt-LOWEST_PAGE-clause-performs g c = λ some.
     let k = known model.image_layout c.args.pid (meaning c.args.state.now) in
     let row : Bool → Bool → Replying = λ low high. if low || high then refuse ENOMEM else map_at k c.args.first c.args.count c.args.prot in
-    by-refusal c.args.pid _ c.args.state.now c.args.state.now c.refused.result c.requires.sound.pids ENOMEM
+    by-refusal c.args.pid _ c.args.state.now c.args.state.now c.refused.result c.requires.caller.sound.pids ENOMEM
     (ap (λ low. row low (nat_lt places_end (c.args.first + c.args.count))) (test-yes c.args.first lowest_page c.if-first-lt-LOWEST_PAGE.true))
     c.refused.ensures refl
 
@@ -22,7 +22,7 @@ pub returns-then-first-count-gt-PLACES_END-clause-performs : goal.returns-then-f
 returns-then-first-count-gt-PLACES_END-clause-performs g c = λ some.
     let k = known model.image_layout c.args.pid (meaning c.args.state.now) in
     let row : Bool → Bool → Replying = λ low high. if low || high then refuse ENOMEM else map_at k c.args.first c.args.count c.args.prot in
-    by-refusal c.args.pid _ c.args.state.now c.args.state.now c.refused-then-first-count-gt-PLACES_END.result c.requires.sound.pids ENOMEM
+    by-refusal c.args.pid _ c.args.state.now c.args.state.now c.refused-then-first-count-gt-PLACES_END.result c.requires.caller.sound.pids ENOMEM
     (ap (λ low. row low (nat_lt places_end (c.args.first + c.args.count))) (test-no c.args.first lowest_page c.if-first-lt-LOWEST_PAGE.false)
     ∙ ap (row false) (test-yes places_end (c.args.first + c.args.count) c.if-first-count-gt-PLACES_END.true))
     c.refused-then-first-count-gt-PLACES_END.ensures refl
@@ -31,7 +31,7 @@ pub returns-clause-performs : goal.returns-clause-performs
 returns-clause-performs g c = λ some.
     let k = known model.image_layout c.args.pid (meaning c.args.state.now) in
     let row : Bool → Bool → Replying = λ low high. if low || high then refuse ENOMEM else map_at k c.args.first c.args.count c.args.prot in
-    by-row c.args.pid _ c.args.state.now c.map_at.new.state c.map_at.result c.requires.sound.pids (λ k. map_at k c.args.first c.args.count c.args.prot)
+    by-row c.args.pid _ c.args.state.now c.map_at.new.state c.map_at.result c.requires.caller.sound.pids (λ k. map_at k c.args.first c.args.count c.args.prot)
     (ap (λ low. row low (nat_lt places_end (c.args.first + c.args.count))) (test-no c.args.first lowest_page c.if-first-lt-LOWEST_PAGE.false)
     ∙ ap (row false) (test-no places_end (c.args.first + c.args.count) c.if-first-count-gt-PLACES_END.false))
     (c.map_at.ensures.performs some)

@@ -7,13 +7,13 @@ use Rattle.kr_steps.proofs.calling.call.Goals as goal
 
 pub answer-requires : goal.answer-requires
 answer-requires g c =
-    let may = c.requires.may in
+    let may = c.requires.caller.may in
     let runs = c.in-Answer.ensures.runs may.calls may.few may.runs (λ e. absurd cc) in
     (lit< tt, sound-of g.P.Places.number (g.P.Places.mounts c.args.places.now) c.carry_out.new.state runs.lasts.lawful runs.served)
 
 pub stay-requires : goal.stay-requires
 stay-requires g c =
-    let may = c.requires.may in
+    let may = c.requires.caller.may in
     let runs = c.in-Wait.ensures.runs may.calls may.few may.runs (λ e. absurd cc) in
     (lit< tt, sound-of g.P.Places.number (g.P.Places.mounts c.args.places.now) c.carry_out.new.state runs.lasts.lawful runs.served)
 

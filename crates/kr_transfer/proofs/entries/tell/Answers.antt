@@ -13,7 +13,7 @@ returns-in-Ok-clause-performs g c = λ some.
     let all = c.args.all.now.bytes in
     let next : Replying = done (length all) (Seek c.args.fd c.args.all.now.last ∷ []) in
     by-uses c.args.pid _ old c.write.new.state c.seek.new.self c.number.result (answers (length all) (Seek c.args.fd c.args.all.now.last ∷ [])) c.in-Ok.ensures.ok.leaves.sound.pids
-    (writes-allowed c.args.pid _ old old c.args.buf c.as_slice.result.now (refuse EFAULT) next c.write.new.state c.requires.lives c.in-Ok.ensures.ok
+    (writes-allowed c.args.pid _ old old c.args.buf c.as_slice.result.now (refuse EFAULT) next c.write.new.state c.requires.caller.lives c.in-Ok.ensures.ok
     (begins c.args.pid _ old _ (ap (λ bytes. write_if_allowed c.args.buf bytes (refuse EFAULT) next) (sym c.as_slice.ensures))))
     (c.number.ensures ∙ ap (λ n. Answer (pos n)) c.len.ensures)
     (λ mounts. c.seek.ensures.makes mounts)
@@ -23,7 +23,7 @@ returns-in-Err-BadAddress-clause-performs g c = λ some.
     let old = c.args.state.now in
     let all = c.args.all.now.bytes in
     let next : Replying = done (length all) (Seek c.args.fd c.args.all.now.last ∷ []) in
-    refused-after c.args.pid _ old old c.write.new.state c.refused.result EFAULT c.requires.sound.pids
+    refused-after c.args.pid _ old old c.write.new.state c.refused.result EFAULT c.requires.caller.sound.pids
     (unwritable c.args.pid _ old old c.args.buf c.as_slice.result.now (refuse EFAULT) next
     (c.write.ensures.bad.0 (c.in-Err-BadAddress.is ∙ ap (λ x. Err x) c.in-Err-BadAddress.field-0-is))
     (begins c.args.pid _ old _ (ap (λ bytes. write_if_allowed c.args.buf bytes (refuse EFAULT) next) (sym c.as_slice.ensures))))

@@ -16,7 +16,7 @@ use Rattle.kr_transfer.proofs.moving.read_all.Goals as goal
 
 pub loop-piece-init : goal.loop-piece-init
 loop-piece-init g c = record {
-  reads = reads-itself c.args.pid c.args.state.now c.requires.sound c.requires.lives;
+  reads = reads-itself c.args.pid c.args.state.now c.requires.caller.sound c.requires.caller.lives;
   allowed = c.requires.allowed;
   comes = λ next.
       let pieces = cut_to c.args.n (told c.args.pieces.now) in

@@ -19,7 +19,7 @@ loop-piece-init g c =
     let pieces = told c.args.pieces.now in
     record {
       within = omega arith;
-      leaves = leaves-itself c.args.pid c.args.state.now c.requires.sound c.requires.lives;
+      leaves = leaves-itself c.args.pid c.args.state.now c.requires.caller.sound c.requires.caller.lives;
       allowed = ap (λ n. all_allowed (memory_of c.args.pid (meaning c.args.state.now)).pages Write (cut_to n pieces)) (sym all) ∙ c.requires.allowed;
       comes = λ next.
           goes-on c.args.pid (write_all (laid_into (cut_to (length bytes) pieces) bytes) next) c.args.state.now c.args.state.now (write_all (laid_into (cut_to (length bytes) pieces) bytes) next)

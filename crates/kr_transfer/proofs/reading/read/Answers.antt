@@ -15,7 +15,7 @@ use Rattle.kr_transfer.proofs.reading.read.Goals as goal
 pub read_open-requires : goal.read_open-requires
 read_open-requires g c =
     let k = known model.image_layout c.args.pid (meaning c.args.state.now) in
-    (lit< tt, (c.requires.view, (c.requires.lives, open-here c.args.pid c.args.state.now c.args.fd c.in-Some.channel (ap (channel_of k) (sym (to_z-of_z {w = w32} {z = c.args.fd} c.ranges.fd)) ∙ sym c.in-Some.ensures))))
+    (lit< tt, (c.requires, open-here c.args.pid c.args.state.now c.args.fd c.in-Some.channel (ap (channel_of k) (sym (to_z-of_z {w = w32} {z = c.args.fd} c.ranges.fd)) ∙ sym c.in-Some.ensures)))
 
 pub returns-in-Some-clause-performs : goal.returns-in-Some-clause-performs
 returns-in-Some-clause-performs g c = λ some.

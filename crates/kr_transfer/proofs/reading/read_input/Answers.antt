@@ -14,15 +14,15 @@ returns-then-is_empty-clause-performs g c = λ some o h.
     let bytes = c.in-Ok.bytes in
     by-none c.args.pid _ c.args.state.now c.args.state.now c.number.result (told c.args.pieces.now) bytes (TakeInput (length bytes) ∷ [])
     (input-row (known model.image_layout c.args.pid (meaning c.args.state.now)) (told c.args.pieces.now) bytes
-    (c.in-Ok.ensures ∙ c.part-left.ensures ∙ ap (λ b. take c.args.count (drop c.args.state.now.taken b)) c.as_slice.ensures ∙ ap (λ n. take n (drop c.args.state.now.taken c.args.state.now.input)) c.requires.asked))
-    (c.is_empty.ensures.0 c.if-is_empty.true) c.requires.view.lawful.pids c.number.ensures refl
+    (c.in-Ok.ensures ∙ c.part-left.ensures ∙ ap (λ b. take c.args.count (drop c.args.state.now.taken b)) c.as_slice.ensures ∙ ap (λ n. take n (drop c.args.state.now.taken c.args.state.now.input)) c.requires.count.asked))
+    (c.is_empty.ensures.0 c.if-is_empty.true) c.requires.caller.view.lawful.pids c.number.ensures refl
 
 pub returns-in-Ok-hand-clause-performs : goal.returns-in-Ok-hand-clause-performs
 returns-in-Ok-hand-clause-performs g c = λ some o h.
     let bytes = c.as_slice-2.result.now in
     by-hand c.args.pid _ c.args.state.now c.take_input.new.self c.number-in-Ok-hand.result (told c.args.pieces.now) bytes (TakeInput (length bytes) ∷ [])
     (input-row (known model.image_layout c.args.pid (meaning c.args.state.now)) (told c.args.pieces.now) bytes
-    (c.as_slice-2.ensures ∙ c.in-Ok.ensures ∙ c.part-left.ensures ∙ ap (λ b. take c.args.count (drop c.args.state.now.taken b)) c.as_slice.ensures ∙ ap (λ n. take n (drop c.args.state.now.taken c.args.state.now.input)) c.requires.asked))
+    (c.as_slice-2.ensures ∙ c.in-Ok.ensures ∙ c.part-left.ensures ∙ ap (λ b. take c.args.count (drop c.args.state.now.taken b)) c.as_slice.ensures ∙ ap (λ n. take n (drop c.args.state.now.taken c.args.state.now.input)) c.requires.count.asked))
     c.hand.new.state (c.in-Ok-hand.ensures.ok (TakeInput (length bytes) ∷ [])) c.in-Ok-hand.ensures.leaves.sound.pids
     (c.number-in-Ok-hand.ensures ∙ ap (λ n. Answer (pos n)) (c.len-in-Ok-hand.ensures ∙ ap length (sym c.as_slice-2.ensures)))
     (λ mounts. c.take_input.ensures.makes c.args.pid mounts ∙ ap (λ n. applied images mounts c.args.pid (TakeInput n) (meaning c.hand.new.state)) (c.len.ensures ∙ ap length (sym c.as_slice-2.ensures)))
@@ -32,5 +32,5 @@ returns-in-Err-BadAddress-clause-performs g c = λ some o h.
     let bytes = c.as_slice-2.result.now in
     by-fault c.args.pid _ c.args.state.now c.hand.new.state c.refused.result (told c.args.pieces.now) bytes (TakeInput (length bytes) ∷ [])
     (input-row (known model.image_layout c.args.pid (meaning c.args.state.now)) (told c.args.pieces.now) bytes
-    (c.as_slice-2.ensures ∙ c.in-Ok.ensures ∙ c.part-left.ensures ∙ ap (λ b. take c.args.count (drop c.args.state.now.taken b)) c.as_slice.ensures ∙ ap (λ n. take n (drop c.args.state.now.taken c.args.state.now.input)) c.requires.asked))
-    c.requires.view.lawful.pids (c.in-Err-BadAddress.ensures.bad (ap Err c.in-Err-BadAddress.field-0-is) (TakeInput (length bytes) ∷ [])) c.refused.ensures (c.in-Err-BadAddress.ensures.err (ap Err c.in-Err-BadAddress.field-0-is)).same
+    (c.as_slice-2.ensures ∙ c.in-Ok.ensures ∙ c.part-left.ensures ∙ ap (λ b. take c.args.count (drop c.args.state.now.taken b)) c.as_slice.ensures ∙ ap (λ n. take n (drop c.args.state.now.taken c.args.state.now.input)) c.requires.count.asked))
+    c.requires.caller.view.lawful.pids (c.in-Err-BadAddress.ensures.bad (ap Err c.in-Err-BadAddress.field-0-is) (TakeInput (length bytes) ∷ [])) c.refused.ensures (c.in-Err-BadAddress.ensures.err (ap Err c.in-Err-BadAddress.field-0-is)).same

@@ -23,7 +23,7 @@ use Rattle.kr_transfer.proofs.reading.readv_open.Goals as goal
 pub returns-in-Some-clause-performs : goal.returns-in-Some-clause-performs
 returns-in-Some-clause-performs g c = λ some o h.
     let k = known model.image_layout c.args.pid (meaning c.args.state.now) in
-    by-refusal c.args.pid _ c.args.state.now c.args.state.now c.refused.result c.requires.view.lawful.pids c.in-Some.errno
+    by-refusal c.args.pid _ c.args.state.now c.args.state.now c.refused.result c.requires.caller.view.lawful.pids c.in-Some.errno
     (read-refused k c.args.channel o h (with_list c.args.list c.args.count (read_pieces k c.args.channel.fd o)) c.in-Some.errno c.in-Some.ensures) c.refused.ensures refl
 
 pub read_pieces-requires : goal.read_pieces-requires
@@ -31,13 +31,10 @@ read_pieces-requires g c =
     let reads = c.in-Ok.ensures.reads (λ e. no-error e) in (
       lit< tt,
       (
-        view-read c.args.state.now c.requires.view c.read_list.new.state c.args.pid reads,
+        record { view = view-read c.args.state.now c.requires.caller.view c.read_list.new.state c.args.pid reads; lives = reads.leaves.lives },
         (
-          reads.leaves.lives,
-          (
-            still-open c.args.pid c.args.channel c.args.state.now c.read_list.new.state reads.leaves.known c.requires.here,
-            (c.in-Ok.ensures.counted.0 ∙ ap (λ (ps : List Piece). asked (told ps)) (sym c.as_slice.ensures.value), c.in-Ok.ensures.counted.1),
-          ),
+          still-open c.args.pid c.args.channel c.args.state.now c.read_list.new.state reads.leaves.known c.requires.here,
+          record { asked = c.in-Ok.ensures.counted.0 ∙ ap (λ (ps : List Piece). asked (told ps)) (sym c.as_slice.ensures.value); limited = c.in-Ok.ensures.counted.1 },
         ),
       ),
     )

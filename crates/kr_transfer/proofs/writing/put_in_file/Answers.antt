@@ -21,7 +21,7 @@ use Rattle.kr_transfer.proofs.writing.put_in_file.Goals as goal
 pub write_file-requires : goal.write_file-requires
 write_file-requires g c =
     let here = c.requires.here in
-    (lit< tt, ap (body_is is_file c.args.state.now.tree) c.inode_of.ensures ∙ file-there c.args.state.now c.args.pid c.requires.view c.args.channel here.opened here.channel (file-open (known model.image_layout c.args.pid (meaning c.args.state.now)) c.args.channel here.opened here.channel c.requires.file))
+    (lit< tt, ap (body_is is_file c.args.state.now.tree) c.inode_of.ensures ∙ file-there c.args.state.now c.args.pid c.requires.caller.view c.args.channel here.opened here.channel (file-open (known model.image_layout c.args.pid (meaning c.args.state.now)) c.args.channel here.opened here.channel c.requires.file))
 
 pub unreachable-requires : goal.unreachable-requires
 unreachable-requires g c =
@@ -31,8 +31,8 @@ unreachable-requires g c =
     let o = c.requires.here.opened in
     let h = c.requires.here.channel in
     let file = file-open k d o h c.requires.file in
-    let there = file-there s c.args.pid c.requires.view d o h file in
-    let never = never-past s c.args.pid c.requires.view d o h file there c.args.at c.args.bytes.now c.requires.some c.requires.limited in
+    let there = file-there s c.args.pid c.requires.caller.view d o h file in
+    let never = never-past s c.args.pid c.requires.caller.view d o h file there c.args.at c.args.bytes.now c.requires.some c.requires.limited in
     let past : is_past_file (size_written c.args.at (length c.args.bytes.now) (size s.tree (inode_under d.host))) ≡ true =
     ap (λ i. is_past_file (size_written c.args.at (length c.args.bytes.now) (size s.tree i))) (sym c.inode_of.ensures) ∙ c.in-Err-TooBig.ensures.too_big.0 (ap Err c.in-Err-TooBig.field-0-is) in
     cc
@@ -45,13 +45,13 @@ seek-requires g c =
     let o = c.requires.here.opened in
     let h = c.requires.here.channel in
     let file = file-open k d o h c.requires.file in
-    let there = file-there s c.args.pid c.requires.view d o h file in
+    let there = file-there s c.args.pid c.requires.caller.view d o h file in
     let n = length c.args.bytes.now in (
       lit< tt,
-      written-sound s c.args.pid c.requires.view d o h file there c.args.at c.args.bytes.now c.requires.some c.requires.limited
+      written-sound s c.args.pid c.requires.caller.view d o h file there c.args.at c.args.bytes.now c.requires.some c.requires.limited
           (ap (λ i. not (is_past_file (size_written c.args.at n (size s.tree i))) && has_no_room_for i (size_written c.args.at n (size s.tree i)) s.tree) (sym c.inode_of.ensures)
           ∙ false_from_ne_true _ (λ full. no-error (c.in-Ok.ensures.full.1 full)))
-          c.write_file.new.self c.are_bytes.ensures (c.in-Ok.ensures.served c.requires.view.served) c.requires.lives
+          c.write_file.new.self c.are_bytes.ensures (c.in-Ok.ensures.served c.requires.caller.view.served) c.requires.caller.lives
           (λ mounts. subst (λ i. meaning c.write_file.new.self ≡ applied images mounts c.args.pid (WriteFile i c.args.at c.args.bytes.now) (meaning s)) c.inode_of.ensures (c.in-Ok.ensures.ok c.args.pid mounts)),
     )
 
@@ -61,10 +61,10 @@ returns-in-Ok-clause-performs g c = λ some o h.
     let k = known model.image_layout c.args.pid (meaning s) in
     let d = c.args.channel in
     let file = file-open k d o h c.requires.file in
-    let there = file-there s c.args.pid c.requires.view d o h file in
+    let there = file-there s c.args.pid c.requires.caller.view d o h file in
     let n = length c.args.bytes.now in
-    by-reply c.args.pid _ s c.seek.new.self c.number.result c.requires.view.lawful.pids (answers n (WriteFile (inode_under d.host) c.args.at c.args.bytes.now ∷ Seek d.fd (c.args.at + n) ∷ []))
-    (has-room s c.args.pid c.requires.view d o h file there c.args.at c.args.bytes.now c.requires.some c.requires.limited
+    by-reply c.args.pid _ s c.seek.new.self c.number.result c.requires.caller.view.lawful.pids (answers n (WriteFile (inode_under d.host) c.args.at c.args.bytes.now ∷ Seek d.fd (c.args.at + n) ∷ []))
+    (has-room s c.args.pid c.requires.caller.view d o h file there c.args.at c.args.bytes.now c.requires.some c.requires.limited
     (ap (λ i. not (is_past_file (size_written c.args.at n (size s.tree i))) && has_no_room_for i (size_written c.args.at n (size s.tree i)) s.tree) (sym c.inode_of.ensures)
     ∙ false_from_ne_true _ (λ full. no-error (c.in-Ok.ensures.full.1 full))) d.fd)
     c.number.ensures
@@ -77,9 +77,9 @@ returns-in-Err-Full-clause-performs g c = λ some o h.
     let k = known model.image_layout c.args.pid (meaning s) in
     let d = c.args.channel in
     let file = file-open k d o h c.requires.file in
-    let there = file-there s c.args.pid c.requires.view d o h file in
+    let there = file-there s c.args.pid c.requires.caller.view d o h file in
     let n = length c.args.bytes.now in
-    by-refusal c.args.pid _ s c.write_file.new.self c.refused.result c.requires.view.lawful.pids ENOSPC
-    (no-room s c.args.pid c.requires.view d o h file there c.args.at c.args.bytes.now c.requires.some c.requires.limited
+    by-refusal c.args.pid _ s c.write_file.new.self c.refused.result c.requires.caller.view.lawful.pids ENOSPC
+    (no-room s c.args.pid c.requires.caller.view d o h file there c.args.at c.args.bytes.now c.requires.some c.requires.limited
     (ap (λ i. not (is_past_file (size_written c.args.at n (size s.tree i))) && has_no_room_for i (size_written c.args.at n (size s.tree i)) s.tree) (sym c.inode_of.ensures)
     ∙ c.in-Err-Full.ensures.full.0 (ap Err c.in-Err-Full.field-0-is)) d.fd) c.refused.ensures c.in-Err-Full.ensures.err

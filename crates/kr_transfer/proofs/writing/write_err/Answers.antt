@@ -16,14 +16,14 @@ use Rattle.kr_transfer.proofs.writing.write_err.Goals as goal
 
 pub read_all-requires : goal.read_all-requires
 read_all-requires g c =
-    (lit< tt, (view-sound c.args.state.now c.requires.view, (c.requires.lives, allowed-cut (memory_of c.args.pid (meaning c.args.state.now)).pages Read c.args.count (told c.args.pieces.now) c.requires.allowed)))
+    (lit< tt, (record { sound = view-sound c.args.state.now c.requires.caller.view; lives = c.requires.caller.lives }, allowed-cut (memory_of c.args.pid (meaning c.args.state.now)).pages Read c.args.count (told c.args.pieces.now) c.requires.allowed))
 
 pub returns-in-Ok-write_err-clause-performs : goal.returns-in-Ok-write_err-clause-performs
 returns-in-Ok-write_err-clause-performs g c = λ some o h.
     let pieces = told c.args.pieces.now in
     let bytes = c.in-Ok.bytes in
     let next = λ (bytes : List ℕ). done (length bytes) (WriteErr bytes ∷ []) in
-    let counted = c.requires.asked in
+    let counted = c.requires.count.asked in
     let within : asked pieces ≤ c.args.count = omega arith in
     by-uses c.args.pid _ c.args.state.now c.read_all.new.state c.write_err.new.self c.number.result (answers (length bytes) (WriteErr bytes ∷ [])) c.in-Ok.ensures.reads.leaves.sound.pids
     (comes-then c.args.pid _ _ _ c.args.state.now c.args.state.now c.read_all.new.state
@@ -35,5 +35,5 @@ pub overflow_cast-len : goal.overflow_cast-len
 overflow_cast-len g c =
     let counted = c.in-Ok.ensures.count ∙ asked-cut c.args.count (told c.args.pieces.now) in
     let own = c.len.ensures in
-    let most = c.requires.limited in
+    let most = c.requires.count.limited in
     omega arith

@@ -15,7 +15,7 @@ use Rattle.kr_transfer.proofs.writing.write_open.Goals as goal
 pub returns-in-Some-clause-performs : goal.returns-in-Some-clause-performs
 returns-in-Some-clause-performs g c = λ some o h.
     let k = known model.image_layout c.args.pid (meaning c.args.state.now) in
-    by-refusal c.args.pid _ c.args.state.now c.args.state.now c.refused.result c.requires.view.lawful.pids c.in-Some.errno
+    by-refusal c.args.pid _ c.args.state.now c.args.state.now c.refused.result c.requires.caller.view.lawful.pids c.in-Some.errno
     (write-refused k c.args.channel o h (write_pieces k c.args.channel.fd o (one_piece c.args.buf c.args.n)) c.in-Some.errno c.in-Some.ensures) c.refused.ensures refl
 
 pub returns-clause-performs : goal.returns-clause-performs

@@ -24,17 +24,17 @@ use Rattle.kr_transfer.proofs.writing.write_pipe.Goals as goal
 
 pub returns-in_default-clause-performs : goal.returns-in_default-clause-performs
 returns-in_default-clause-performs g c = λ some o h.
-    by-reply c.args.pid _ c.args.state.now c.args.state.now c.number.result c.requires.view.lawful.pids (answers 0 [])
+    by-reply c.args.pid _ c.args.state.now c.args.state.now c.number.result c.requires.caller.view.lawful.pids (answers 0 [])
     (writes-no-pipe (known model.image_layout c.args.pid (meaning c.args.state.now)) c.args.pipe (told c.args.pieces.now) (stands-not c.args.state.now c.args.pid c.args.pipe c.in_default.ensures)) c.number.ensures (λ mounts. refl)
 
 pub read_all-requires : goal.read_all-requires
 read_all-requires g c =
-    (lit< tt, (view-sound c.args.state.now c.requires.view, (c.requires.lives, allowed-cut (memory_of c.args.pid (meaning c.args.state.now)).pages Read c.from.result (told c.args.pieces.now) c.requires.allowed)))
+    (lit< tt, (record { sound = view-sound c.args.state.now c.requires.caller.view; lives = c.requires.caller.lives }, allowed-cut (memory_of c.args.pid (meaning c.args.state.now)).pages Read c.from.result (told c.args.pieces.now) c.requires.allowed))
 
 pub returns-in-Ok-clause-performs : goal.returns-in-Ok-clause-performs
 returns-in-Ok-clause-performs g c = λ some o h.
     let st = stands c.args.state.now c.args.pid c.args.pipe c.in-Some.held c.in-Some.ensures in
-    by-reply c.args.pid _ c.args.state.now c.end.new.self Ended c.requires.view.lawful.pids (record { outcome = Ended; changes = End 13 ∷ [] })
+    by-reply c.args.pid _ c.args.state.now c.end.new.self Ended c.requires.caller.view.lawful.pids (record { outcome = Ended; changes = End 13 ∷ [] })
     (writes-unread (known model.image_layout c.args.pid (meaning c.args.state.now)) c.args.pipe (told c.args.pieces.now) st.held st.there (ap not (sym st.reader) ∙ c.if-not-held.true)) refl c.in-Ok.ensures.makes
 
 pub returns-then-held-ge-PIPE_LIMIT-clause-performs : goal.returns-then-held-ge-PIPE_LIMIT-clause-performs
@@ -42,7 +42,7 @@ returns-then-held-ge-PIPE_LIMIT-clause-performs g c = λ some o h.
     let st = stands c.args.state.now c.args.pid c.args.pipe c.in-Some.held c.in-Some.ensures in
     let long = st.count in
     let past = c.if-held-ge-PIPE_LIMIT.true in
-    by-reply c.args.pid _ c.args.state.now c.args.state.now Wait c.requires.view.lawful.pids (record { outcome = Wait; changes = [] })
+    by-reply c.args.pid _ c.args.state.now c.args.state.now Wait c.requires.caller.view.lawful.pids (record { outcome = Wait; changes = [] })
     (writes-full (known model.image_layout c.args.pid (meaning c.args.state.now)) c.args.pipe (told c.args.pieces.now) st.held st.there (ap not (sym st.reader) ∙ c.if-not-held.false) (omega arith)) refl (λ mounts. refl)
 
 pub put_into_pipe-requires : goal.put_into_pipe-requires
@@ -52,7 +52,7 @@ put_into_pipe-requires g c =
     let free = c.from.ensures in
     let counted = c.in-Ok-read_all.ensures.count ∙ asked-cut c.from.result (told c.args.pieces.now) in
     let same = ap length c.as_slice.ensures in
-    let asks = c.requires.asked in
+    let asks = c.requires.count.asked in
     let first = c.requires.some in
     let moves : 0 < length c.as_slice.result.now = omega arith in
     (lit< tt, (subst IsSome (sym (ap (λ (u : model.State _ model.Image). map.get u.files.pipes c.args.pipe) c.in-Ok-read_all.ensures.reads.leaves.means ∙ st.there)) refl, moves))
@@ -61,8 +61,8 @@ pub overflow_cast-len : goal.overflow_cast-len
 overflow_cast-len g c =
     let counted = c.in-Ok-read_all.ensures.count ∙ asked-cut c.from.result (told c.args.pieces.now) in
     let own = c.len.ensures in
-    let asks = c.requires.asked in
-    let most = c.requires.limited in
+    let asks = c.requires.count.asked in
+    let most = c.requires.count.limited in
     omega arith
 
 pub returns-in-Ok-put_into_pipe-clause-performs : goal.returns-in-Ok-put_into_pipe-clause-performs

@@ -14,8 +14,8 @@ use Rattle.kr_turns.proofs.plain.carry_request.Goals as goal
 
 pub replace-requires : goal.replace-requires
 replace-requires g c =
-    let texts = subst HasTextPaths c.in-Execve.is c.requires.paths 0 _ refl in
-    (lit< tt, (subst IsText (sym c.as_slice.ensures) texts.0, (subst AreBytes (sym c.as_slice.ensures) texts.1, (c.requires.named, (c.requires.few_rows, (c.requires.may, c.requires.lives))))))
+    let texts = subst HasTextPaths c.in-Execve.is c.requires.request.paths 0 _ refl in
+    (lit< tt, (subst IsText (sym c.as_slice.ensures) texts.0, (subst AreBytes (sym c.as_slice.ensures) texts.1, (c.requires.caller, c.requires.few_rows))))
 
 pub returns-in-Execve-clause-came : goal.returns-in-Execve-clause-came
 returns-in-Execve-clause-came g c =

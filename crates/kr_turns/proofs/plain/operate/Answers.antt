@@ -21,7 +21,7 @@ use Rattle.kr_turns.proofs.plain.operate.Goals as goal
 
 pub refuse-requires : goal.refuse-requires
 refuse-requires g c =
-    let runs = c.requires.may.runs in
+    let runs = c.requires.caller.may.runs in
     (lit< tt, sound-of g.P.Places.number (g.P.Places.mounts c.args.places.now) c.args.state.now runs.lasts.lawful runs.served)
 
 pub returns-in-Err-Err-clause-came : goal.returns-in-Err-Err-clause-came
@@ -30,7 +30,7 @@ returns-in-Err-Err-clause-came g c =
     let table = g.P.Places.mounts c.args.places.now in
     let s = c.args.state.now in
     let fails = subst (λ (f : WalkFault). AreTargets number (targets_of table c.args.pid (state_numbered number (meaning s)) c.args.request.now) (Err f)) c.in-Err-Err.field-0-is c.in-Err-Err.ensures.answer in
-    came-refused number table c.args.pid c.args.request.now s c.in-Err-Err.errno fails c.requires.may.runs.lasts.lawful.pids _
+    came-refused number table c.args.pid c.args.request.now s c.in-Err-Err.errno fails c.requires.caller.may.runs.lasts.lawful.pids _
     (c.refuse.ensures.came number ∙ ap (λ e. refusal_told c.args.pid e (state_numbered number (meaning s))) c.in-Err-Err.errno-is)
     ∙ no-exec-requested table c.args.pid (state_numbered number (meaning s)) c.args.request.now c.requires.kind
 
@@ -62,17 +62,17 @@ returns-in-Err-Err-clause-runs g c = λ calls few runs. runs-later _ _ calls c.r
 
 pub handed_on-handed-requires : goal.handed_on-handed-requires
 handed_on-handed-requires g c =
-    let runs = c.requires.may.runs in
-    (lit< tt, (sound-of g.P.Places.number (g.P.Places.mounts c.args.places.now) c.args.state.now runs.lasts.lawful runs.served, c.requires.lives))
+    let runs = c.requires.caller.may.runs in
+    (lit< tt, record { sound = sound-of g.P.Places.number (g.P.Places.mounts c.args.places.now) c.args.state.now runs.lasts.lawful runs.served; lives = c.requires.caller.lives })
 
 pub look_ahead-ahead-requires : goal.look_ahead-ahead-requires
 look_ahead-ahead-requires g c =
     let number = g.P.Places.number in
     let table = g.P.Places.mounts c.args.places.now in
-    let runs = c.requires.may.runs in
+    let runs = c.requires.caller.may.runs in
     let lawful = runs.lasts.lawful in (
       lit< tt,
-      (real-points c.args.state.now.tree table lawful.tree lawful.mounts, (c.requires.few_rows, (sound-of number table c.args.state.now lawful runs.served, (c.requires.lives, c.in-Ok.ensures.answer)))),
+      (record { points = real-points c.args.state.now.tree table lawful.tree lawful.mounts; few = c.requires.few_rows }, (record { sound = sound-of number table c.args.state.now lawful runs.served; lives = c.requires.caller.lives }, c.in-Ok.ensures.answer)),
     )
 
 pub carry_out_along-outcome-requires : goal.carry_out_along-outcome-requires
@@ -83,26 +83,17 @@ carry_out_along-outcome-requires g c =
     let mid = c.look_ahead-ahead.new.state in
     let r = c.args.request.now in
     let noted = c.look_ahead-ahead.ensures.noted in
-    let before = c.requires.may in
+    let before = c.requires.caller.may in
     let pids = before.runs.lasts.lawful.pids in
-    let may : MayCall number table mid = record { calls = before.calls; few = before.few; runs = runs-kept number table c.args.pid old mid r noted c.requires.lives before.calls before.runs } in (
+    let may : MayCall number table mid = record { calls = before.calls; few = before.few; runs = runs-kept number table c.args.pid old mid r noted c.requires.caller.lives before.calls before.runs } in (
       lit< tt,
       (
         c.requires.kind,
         (
-          c.requires.given,
+          c.requires.request,
           (
-            c.requires.paths,
-            (
-              c.requires.named,
-              (
-                may,
-                (
-                  lives-kept number table c.args.pid old mid r noted c.requires.lives,
-                  along-kept number table c.args.pid old mid r pids noted c.in-Ok.targets c.in-Ok.ensures.answer,
-                ),
-              ),
-            ),
+            record { named = c.requires.caller.named; may = may; lives = lives-kept number table c.args.pid old mid r noted c.requires.caller.lives },
+            along-kept number table c.args.pid old mid r pids noted c.in-Ok.targets c.in-Ok.ensures.answer,
           ),
         ),
       ),
@@ -112,8 +103,8 @@ pub judge_call-broken-requires : goal.judge_call-broken-requires
 judge_call-broken-requires g c =
     let number = g.P.Places.number in
     let table = g.P.Places.mounts c.args.places.now in
-    let may = c.requires.may in
-    let mid-runs = runs-kept number table c.args.pid c.args.state.now c.look_ahead-ahead.new.state c.args.request.now c.look_ahead-ahead.ensures.noted c.requires.lives may.calls may.runs in (
+    let may = c.requires.caller.may in
+    let mid-runs = runs-kept number table c.args.pid c.args.state.now c.look_ahead-ahead.new.state c.args.request.now c.look_ahead-ahead.ensures.noted c.requires.caller.lives may.calls may.runs in (
       lit< tt,
       λ wanted.
           let runs = c.carry_out_along-outcome.ensures.runs may.calls may.few mid-runs wanted in
@@ -124,8 +115,8 @@ pub settle-requires : goal.settle-requires
 settle-requires g c =
     let number = g.P.Places.number in
     let table = g.P.Places.mounts c.args.places.now in
-    let may = c.requires.may in
-    let mid-runs = runs-kept number table c.args.pid c.args.state.now c.look_ahead-ahead.new.state c.args.request.now c.look_ahead-ahead.ensures.noted c.requires.lives may.calls may.runs in (
+    let may = c.requires.caller.may in
+    let mid-runs = runs-kept number table c.args.pid c.args.state.now c.look_ahead-ahead.new.state c.args.request.now c.look_ahead-ahead.ensures.noted c.requires.caller.lives may.calls may.runs in (
       lit< tt,
       λ wanted.
           let runs = c.carry_out_along-outcome.ensures.runs may.calls may.few mid-runs wanted in
@@ -138,7 +129,7 @@ returns-clause-came g c =
     let table = g.P.Places.mounts c.args.places.now in
     let old = c.args.state.now in
     let after = c.carry_out_along-outcome.new.state in
-    let called = called-kept number table c.args.pid old c.look_ahead-ahead.new.state c.args.request.now c.requires.may.runs.lasts.lawful.pids c.look_ahead-ahead.ensures.noted after c.carry_out_along-outcome.result (c.carry_out_along-outcome.ensures.called c.in_ok-end.ensures.want) in
+    let called = called-kept number table c.args.pid old c.look_ahead-ahead.new.state c.args.request.now c.requires.caller.may.runs.lasts.lawful.pids c.look_ahead-ahead.ensures.noted after c.carry_out_along-outcome.result (c.carry_out_along-outcome.ensures.called c.in_ok-end.ensures.want) in
     operated-now number table c.args.pid c.args.request.now old after c.carry_out_along-outcome.result called c.settle.new.state
     (record { end = c.in_ok-end.end; child = c.child_of-child.result; handed = c.handed_on-handed.result; reach = c.walk_paths.new.reach; broken = c.judge_call-broken.result })
     c.in_ok-end.ensures.settles c.in_ok-end.ensures.end c.child_of-child.ensures
@@ -159,8 +150,8 @@ returns-clause-rule g c =
     let r = c.args.request.now in
     let after = c.carry_out_along-outcome.new.state in
     let wanted = c.in_ok-end.ensures.want in
-    let called = called-kept number table c.args.pid old c.look_ahead-ahead.new.state r c.requires.may.runs.lasts.lawful.pids c.look_ahead-ahead.ensures.noted after c.carry_out_along-outcome.result (c.carry_out_along-outcome.ensures.called wanted) in
-    c.judge_call-broken.ensures wanted number table r s c.look_ahead-ahead.ensures.ahead (lives-shown number c.args.pid old c.requires.lives) (outcome-told number table c.args.pid r old after c.carry_out_along-outcome.result called)
+    let called = called-kept number table c.args.pid old c.look_ahead-ahead.new.state r c.requires.caller.may.runs.lasts.lawful.pids c.look_ahead-ahead.ensures.noted after c.carry_out_along-outcome.result (c.carry_out_along-outcome.ensures.called wanted) in
+    c.judge_call-broken.ensures wanted number table r s c.look_ahead-ahead.ensures.ahead (lives-shown number c.args.pid old c.requires.caller.lives) (outcome-told number table c.args.pid r old after c.carry_out_along-outcome.result called)
     (row-left number table c.args.pid r old after c.carry_out_along-outcome.result called)
     ∙ ap (λ (reach : Reach). judged g.row.M table c.args.pid r s c.args.no_shelf reach) c.in-Ok.ensures.reach
     ∙ no-exec-rule g.row.M table c.args.pid c.args.no_shelf s r c.requires.kind
@@ -170,4 +161,4 @@ returns-clause-runs g c = λ calls few runs.
     let number = g.P.Places.number in
     let table = g.P.Places.mounts c.args.places.now in
     c.in_ok-end.ensures.runs _ _ _
-    (c.carry_out_along-outcome.ensures.runs calls few (runs-kept number table c.args.pid c.args.state.now c.look_ahead-ahead.new.state c.args.request.now c.look_ahead-ahead.ensures.noted c.requires.lives calls runs) c.in_ok-end.ensures.want)
+    (c.carry_out_along-outcome.ensures.runs calls few (runs-kept number table c.args.pid c.args.state.now c.look_ahead-ahead.new.state c.args.request.now c.look_ahead-ahead.ensures.noted c.requires.caller.lives calls runs) c.in_ok-end.ensures.want)

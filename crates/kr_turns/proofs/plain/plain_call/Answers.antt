@@ -14,7 +14,7 @@ use Rattle.kr_turns.proofs.plain.plain_call.Goals as goal
 
 pub refuse-requires : goal.refuse-requires
 refuse-requires g c =
-    let runs = c.in-Err-Err.ensures.runs g.P.Places.number (g.P.Places.mounts c.args.places.now) c.requires.may.calls c.requires.may.runs in
+    let runs = c.in-Err-Err.ensures.runs g.P.Places.number (g.P.Places.mounts c.args.places.now) c.requires.caller.may.calls c.requires.caller.may.runs in
     (lit< tt, sound-of g.P.Places.number (g.P.Places.mounts c.args.places.now) c.request.new.state runs.lasts.lawful runs.served)
 
 pub returns-in-Err-Err-clause-came : goal.returns-in-Err-Err-clause-came
@@ -51,8 +51,8 @@ carry_request-requires g c =
     let table = g.P.Places.mounts c.args.places.now in
     let mid = c.request.new.state in
     let requested = c.in-Ok.ensures.requested in
-    let may : MayCall number table mid = record { calls = c.requires.may.calls; few = c.requires.may.few; runs = c.in-Ok.ensures.runs number table c.requires.may.calls c.requires.may.runs } in
-    (lit< tt, (c.in-Ok.ensures.given, (c.in-Ok.ensures.paths, (c.requires.named, (c.requires.few_rows, (may, lives-mid number table c.args.pid c.args.state.now mid _ requested))))))
+    let may : MayCall number table mid = record { calls = c.requires.caller.may.calls; few = c.requires.caller.may.few; runs = c.in-Ok.ensures.runs number table c.requires.caller.may.calls c.requires.caller.may.runs } in
+    (lit< tt, (record { given = c.in-Ok.ensures.given; paths = c.in-Ok.ensures.paths }, (record { named = c.requires.caller.named; may = may; lives = lives-mid number table c.args.pid c.args.state.now mid _ requested }, c.requires.few_rows)))
 
 pub returns-clause-came : goal.returns-clause-came
 returns-clause-came g c =

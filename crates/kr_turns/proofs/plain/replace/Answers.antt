@@ -12,13 +12,13 @@ use Rattle.kr_turns.proofs.plain.replace.Goals as goal
 
 pub resume-requires : goal.resume-requires
 resume-requires g c =
-    let may = c.requires.may in
+    let may = c.requires.caller.may in
     let left = c.in-Replaced.ensures (λ e. absurd cc) in
     (lit< tt, sound-of g.P.Places.number (g.P.Places.mounts c.args.places.now) c.execute.new.state (left.lasts may.calls may.runs.lasts).lawful left.served)
 
 pub refuse-requires : goal.refuse-requires
 refuse-requires g c =
-    let may = c.requires.may in
+    let may = c.requires.caller.may in
     let left = c.in-Refused.ensures (λ e. absurd cc) in
     (lit< tt, sound-of g.P.Places.number (g.P.Places.mounts c.args.places.now) c.execute.new.state (left.lasts may.calls may.runs.lasts).lawful left.served)
 
@@ -79,7 +79,7 @@ returns-in-Refused-clause-rule g c =
     let left = c.in-Refused.ensures (λ e. absurd cc) in
     c.refuse.ensures.rule
     ∙ refused-rule number table c.args.pid c.args.path.now c.args.args c.args.env c.args.state.now c.execute.new.state c.in-Refused.errno
-    (execution-left number table c.args.pid c.args.path.now c.args.args c.args.env c.args.state.now c.execute.new.state _ left.executed) left.executed.told c.requires.lives c.args.no_shelf c.execute.new.reach
+    (execution-left number table c.args.pid c.args.path.now c.args.args c.args.env c.args.state.now c.execute.new.state _ left.executed) left.executed.told c.requires.caller.lives c.args.no_shelf c.execute.new.reach
     (left.reach ∙ ap (λ m. execution_reach table c.args.pid (state_numbered number s) c.args.path.now c.args.args c.args.env m nothing_reached) (sym (memory-numbered number c.args.pid s)))
 
 pub returns-in-Refused-clause-runs : goal.returns-in-Refused-clause-runs

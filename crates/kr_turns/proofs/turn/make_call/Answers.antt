@@ -24,14 +24,8 @@ plain_call-requires g c =
     let may : MayCall number table c.enter.new.state = record { calls = c.args.calls; few = c.requires.few; runs = stands.runs } in (
       lit< tt,
       (
-        c.requires.named,
-        (
-          c.requires.few_rows,
-          (
-            may,
-            stands.lives,
-          ),
-        ),
+        record { named = c.requires.named; may = may; lives = stands.lives },
+        c.requires.few_rows,
       ),
     )
 

@@ -39,7 +39,7 @@ kill-requires g c =
     let table = g.P.Places.mounts c.args.places.now in
     let runs = c.in_ok-event.ensures.runs number table c.args.calls c.requires.runs in
     let view : IsOfView c.compute.new.state = record { number = number; table = table; lawful = runs.lasts.lawful; served = runs.served } in
-    (lit< tt, (view, computed-still c.args.pid c.args.fuel c.args.state.now c.compute.new.state _ _ c.in_ok-event.ensures.computes))
+    (lit< tt, record { view = view; lives = computed-still c.args.pid c.args.fuel c.args.state.now c.compute.new.state _ _ c.in_ok-event.ensures.computes })
 
 pub returns-in-Next-clause-runs : goal.returns-in-Next-clause-runs
 returns-in-Next-clause-runs g c = runs-later _ _ c.args.calls c.compute.new.state (c.in_ok-event.ensures.runs g.P.Places.number (g.P.Places.mounts c.args.places.now) c.args.calls c.requires.runs)

@@ -31,7 +31,7 @@ returns-clause-text c =
     let base = numbered number_of c.in-Ok.directory.place in
     let found : (chosen table tree user base c.args.launch.env (word_of c.args.launch.command) c.working_directory.new.reach).path ≡ Some c.in-Ok-Some.path =
     ap (λ w. (chosen table tree user base c.args.launch.env w c.working_directory.new.reach).path) (sym c.word_of.ensures) ∙ sym (ap (λ (x : Chosen). x.path) c.in-Ok-Some.ensures) ∙ c.in-Ok-Some.field-0-is in
-    text-chosen table tree user base c.args.launch.env c.args.launch.command c.working_directory.new.reach c.in-Ok-Some.path c.requires.env c.requires.command found
+    text-chosen table tree user base c.args.launch.env c.args.launch.command c.working_directory.new.reach c.in-Ok-Some.path c.requires.launch.env c.requires.launch.command found
 
 pub returns-clause-cwd : goal.returns-clause-cwd
 returns-clause-cwd c =

@@ -12,4 +12,4 @@ returns-in-Ok-clause-read g c = λ next.
     (c.from_le_bytes.ensures ∙ ap (from_le_bytes w64) c.in-Ok.ensures.bytes ∙ word-of (memory_at t).pages c.args.at)
 
 pub returns-in-Ok-clause-edits : goal.returns-in-Ok-clause-edits
-returns-in-Ok-clause-edits g c = peek-edits (g.T.Tracee.stopped c.args.t.now) c.pid-pid.ensures.lives (g.T.Tracee.stopped c.peek.new.self) c.args.at 8 c.in-Ok.ensures.after
+returns-in-Ok-clause-edits g c = record { edits = peek-edits (g.T.Tracee.stopped c.args.t.now) c.pid-pid.ensures.lives (g.T.Tracee.stopped c.peek.new.self) c.args.at 8 c.in-Ok.ensures.after; rest = c.in-Ok.ensures.rest }

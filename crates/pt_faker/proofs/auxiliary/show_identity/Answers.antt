@@ -1,9 +1,8 @@
 use Rattle.std.proofs.Common.{◌∙◌, ◌+◌, ◌%◌, ◌^◌, ap}
-use Rattle.kr_stops.proofs.EditLemmas.{edited-then}
 use Rattle.pt_faker.specs.Carrying.{on_its_memory}
 use Rattle.pt_faker.specs.Faking.{put_values}
 use Rattle.pt_faker.proofs.AuxiliaryLemmas.{shown-all, shown-arguments, shown-none}
-use Rattle.pt_faker.proofs.StopLemmas.{on_ok}
+use Rattle.pt_faker.proofs.StopLemmas.{on_ok, only-then}
 use Rattle.pt_faker.proofs.auxiliary.show_identity.Goals as goal
 
 pub returns-in_default-clause-shows : goal.returns-in_default-clause-shows
@@ -14,7 +13,7 @@ returns-in_default-behind_list-clause-shows g c =
     shown-arguments c.args.ids.now c.args.stack (g.T.Tracee.stopped c.args.t.now) (g.T.Tracee.stopped c.behind_list.new.t) (g.T.Tracee.stopped c.behind_list-2.new.t) c.in-Some.environment c.in-Some.ensures.behind c.in_default-behind_list.ensures.behind
 
 pub returns-in_default-behind_list-clause-edits : goal.returns-in_default-behind_list-clause-edits
-returns-in_default-behind_list-clause-edits g c = edited-then _ (g.T.Tracee.stopped c.behind_list.new.t) _ c.in-Some.ensures.edits c.in_default-behind_list.ensures.edits
+returns-in_default-behind_list-clause-edits g c = only-then c.in-Some.ensures.edits c.in_default-behind_list.ensures.edits
 
 pub returns-clause-shows : goal.returns-clause-shows
 returns-clause-shows g c =
@@ -26,4 +25,4 @@ returns-clause-shows g c =
 
 pub returns-clause-edits : goal.returns-clause-edits
 returns-clause-edits g c =
-    edited-then _ (g.T.Tracee.stopped c.behind_list-2.new.t) _ (edited-then _ (g.T.Tracee.stopped c.behind_list.new.t) _ c.in-Some.ensures.edits c.in-Some-behind_list.ensures.edits) c.put_values.ensures.edits
+    only-then (only-then c.in-Some.ensures.edits c.in-Some-behind_list.ensures.edits) c.put_values.ensures.edits

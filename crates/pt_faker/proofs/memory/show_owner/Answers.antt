@@ -27,4 +27,7 @@ pub returns-clause-edits : goal.returns-clause-edits
 returns-clause-edits g c =
     let t = g.T.Tracee.stopped c.args.t.now in
     let u = g.T.Tracee.stopped c.peek.new.self in
-    edited-then t u _ (peek-edits t c.pid-pid.ensures.lives u c.args.at 128 c.in-Ok.ensures.after) c.write.ensures.edits
+    record {
+      edits = edited-then t u _ (peek-edits t c.pid-pid.ensures.lives u c.args.at 128 c.in-Ok.ensures.after) c.write.ensures.edits.edits;
+      rest = c.write.ensures.edits.rest ∙ c.in-Ok.ensures.rest;
+    }

@@ -4,10 +4,10 @@ use Rattle.pt_faker.proofs.StopLemmas.{numbers_few, peek-edits}
 use Rattle.pt_faker.proofs.memory.take_groups.Goals as goal
 
 pub returns-in_err-groups-clause-edits : goal.returns-in_err-groups-clause-edits
-returns-in_err-groups-clause-edits g c = peek-edits (g.T.Tracee.stopped c.args.t.now) c.pid-pid.ensures.lives (g.T.Tracee.stopped c.peek.new.self) c.args.at _ c.in-Ok.ensures.after
+returns-in_err-groups-clause-edits g c = record { edits = peek-edits (g.T.Tracee.stopped c.args.t.now) c.pid-pid.ensures.lives (g.T.Tracee.stopped c.peek.new.self) c.args.at _ c.in-Ok.ensures.after; rest = c.in-Ok.ensures.rest }
 
 pub returns-clause-edits : goal.returns-clause-edits
-returns-clause-edits g c = peek-edits (g.T.Tracee.stopped c.args.t.now) c.pid-pid.ensures.lives (g.T.Tracee.stopped c.peek.new.self) c.args.at _ c.in-Ok.ensures.after
+returns-clause-edits g c = record { edits = peek-edits (g.T.Tracee.stopped c.args.t.now) c.pid-pid.ensures.lives (g.T.Tracee.stopped c.peek.new.self) c.args.at _ c.in-Ok.ensures.after; rest = c.in-Ok.ensures.rest }
 
 pub set_groups-requires : goal.set_groups-requires
 set_groups-requires g c =

@@ -1,9 +1,8 @@
 use Rattle.std.proofs.Common.{◌≡◌, ◌∙◌, ◌&&◌, true, length, ap, sym}
 use Rattle.pt_ident.specs.rv_mem.declared.rights.Use.TheVariants.{Write}
 use Rattle.kr_stops.specs.Editing.{after_poke, memory_at}
-use Rattle.kr_stops.proofs.EditLemmas.{edited-then}
 use Rattle.pt_ident.specs.Identity.{numbers_of}
-use Rattle.pt_faker.proofs.StopLemmas.{allows_all-written, and_alike, and_second, and_third, may-still, numbers-told, poke-again, wrote}
+use Rattle.pt_faker.proofs.StopLemmas.{allows_all-written, and_alike, and_second, and_third, may-still, numbers-told, only-then, poke-again, wrote}
 use Rattle.pt_faker.proofs.memory.tell_numbers.Goals as goal
 
 pub write-requires-2 : goal.write-requires-2
@@ -28,15 +27,15 @@ write-requires-3 g c =
     }
 
 pub returns-in_err-write-2-clause-edits : goal.returns-in_err-write-2-clause-edits
-returns-in_err-write-2-clause-edits g c = edited-then _ (g.T.Tracee.stopped c.write.new.t) _ c.in_ok-write.ensures.edits c.in_err-write-2.ensures.edits
+returns-in_err-write-2-clause-edits g c = only-then c.in_ok-write.ensures.edits c.in_err-write-2.ensures.edits
 
 pub returns-in_err-write-3-clause-edits : goal.returns-in_err-write-3-clause-edits
 returns-in_err-write-3-clause-edits g c =
-    edited-then _ (g.T.Tracee.stopped c.write-2.new.t) _ (edited-then _ (g.T.Tracee.stopped c.write.new.t) _ c.in_ok-write.ensures.edits c.in_ok-write-2.ensures.edits) c.in_err-write-3.ensures.edits
+    only-then (only-then c.in_ok-write.ensures.edits c.in_ok-write-2.ensures.edits) c.in_err-write-3.ensures.edits
 
 pub returns-clause-edits : goal.returns-clause-edits
 returns-clause-edits g c =
-    edited-then _ (g.T.Tracee.stopped c.write-2.new.t) _ (edited-then _ (g.T.Tracee.stopped c.write.new.t) _ c.in_ok-write.ensures.edits c.in_ok-write-2.ensures.edits) c.in_ok-write-3.ensures.edits
+    only-then (only-then c.in_ok-write.ensures.edits c.in_ok-write-2.ensures.edits) c.in_ok-write-3.ensures.edits
 
 pub returns-clause-tells : goal.returns-clause-tells
 returns-clause-tells g c = λ i.

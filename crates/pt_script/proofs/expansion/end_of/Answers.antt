@@ -38,6 +38,6 @@ scripts-preserved g c =
           c.in_ok-command.ensures.answer;
       short = c.in_ok-command.ensures.short;
       walker = c.interpreted.ensures.walker ∙ l.invariant.walker;
-      same = c.interpreted.ensures.same ∙ l.invariant.same;
-      rest = c.interpreted.ensures.rest ∙ l.invariant.rest;
+      same = c.interpreted.ensures.kernel.same ∙ l.invariant.same;
+      rest = c.interpreted.ensures.kernel.rest ∙ l.invariant.rest;
     }

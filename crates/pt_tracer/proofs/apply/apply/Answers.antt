@@ -1,11 +1,11 @@
 use Rattle.std.proofs.Common.{SFits, rules, sym, w64, ◌∙◌}
 use Rattle.std.proofs.Math.Facts.{to_z-of_z}
-use Rattle.pt_faker.proofs.StopLemmas.{edited-then}
+use Rattle.pt_faker.proofs.StopLemmas.{only-then}
 use Rattle.pt_tracer.proofs.PokeLemmas.{emulated}
 use Rattle.pt_tracer.proofs.apply.apply.Goals as goal
 
 pub returns-in_ok-poke_all-in-Swap-clause-edits : goal.returns-in_ok-poke_all-in-Swap-clause-edits
-returns-in_ok-poke_all-in-Swap-clause-edits g c = edited-then _ (g.T.Tracee.stopped c.poke_all.new.t) _ c.in_ok-poke_all-in-Swap.ensures.edits c.set_all.ensures.edits
+returns-in_ok-poke_all-in-Swap-clause-edits g c = only-then c.in_ok-poke_all-in-Swap.ensures.edits c.set_all.ensures.edits
 
 pub returns-in_ok-poke_all-in-Emulate-clause-applied : goal.returns-in_ok-poke_all-in-Emulate-clause-applied
 returns-in_ok-poke_all-in-Emulate-clause-applied g c =
@@ -15,4 +15,4 @@ returns-in_ok-poke_all-in-Emulate-clause-applied g c =
     c.in-Emulate.is c.as_slice-in-Emulate.ensures c.as_slice-in-Emulate-2.ensures (sym c.may_poke-in-Emulate.ensures ∙ c.if-not-may_poke-2.false) c.in_ok-poke_all-in-Emulate.ensures.poked c.take_number-number.ensures.taken (to_z-of_z {w = w64} {z = answer} fits)
 
 pub returns-in_ok-poke_all-in-Emulate-clause-edits : goal.returns-in_ok-poke_all-in-Emulate-clause-edits
-returns-in_ok-poke_all-in-Emulate-clause-edits g c = edited-then _ (g.T.Tracee.stopped c.poke_all-in-Emulate.new.t) _ c.in_ok-poke_all-in-Emulate.ensures.edits c.take_number-number.ensures.edits
+returns-in_ok-poke_all-in-Emulate-clause-edits g c = only-then c.in_ok-poke_all-in-Emulate.ensures.edits c.take_number-number.ensures.edits

@@ -1,8 +1,7 @@
-use Rattle.std.proofs.Common.{◌≡◌, ◌∙◌, ◌-◌, length, sym, ap, subst}
+use Rattle.std.proofs.Common.{◌≡◌, ◌∙◌, ◌-◌, length, sym, ap}
 use Rattle.pt_bind.specs.Binding.{rows_of}
-use Rattle.pt_faker.specs.Stopping.{IsEdited, Stopped}
 use Rattle.pt_tracer.specs.Planning.{script_plan}
-use Rattle.pt_tracer.proofs.PlanLemmas.{if_ok, script-expanded}
+use Rattle.pt_tracer.proofs.PlanLemmas.{if_ok, peeks-then, script-expanded}
 use Rattle.pt_tracer.proofs.planning.expand_with.Goals as goal
 
 pub returns-in-Ok-2-clause-plan : goal.returns-in-Ok-2-clause-plan
@@ -11,7 +10,7 @@ returns-in-Ok-2-clause-plan g c =
     let program = c.in-Ok.program in
     let kept : c.saturating_sub-kept.result ≡ length c.args.handed.args - 1 = c.saturating_sub-kept.ensures ∙ ap (λ n. n - 1) c.len.ensures in
     let steps = script-expanded (rows_of c.args.walker.now) c.args.tags.now c.args.edit c.args.args (length c.args.handed.args - 1) t program _ c.in-Ok.ensures.answer c.if-expanded-eq0.false in
-    if_ok c.plan_script.result (λ plan e. e ∙ (λ k. script_plan (c.in-Ok.ensures.same k) c.args.args (kept k) program) ∙ sym steps) c.plan_script.ensures.plan
+    if_ok c.plan_script.result (λ plan e. e ∙ (λ k. script_plan (c.in-Ok.ensures.process.same k) c.args.args (kept k) program) ∙ sym steps) c.plan_script.ensures.plan
 
 pub returns-in-Ok-2-clause-edits : goal.returns-in-Ok-2-clause-edits
-returns-in-Ok-2-clause-edits g c = subst (λ (u : Stopped). IsEdited u (g.T.Tracee.stopped c.plan_script.new.t)) c.in-Ok.ensures.same c.plan_script.ensures.edits
+returns-in-Ok-2-clause-edits g c = peeks-then c.in-Ok.ensures.process c.plan_script.ensures.edits

@@ -2,4 +2,4 @@ use Rattle.pt_faker.proofs.StopLemmas.{register-edits}
 use Rattle.pt_tracer.proofs.registers.set.Goals as goal
 
 pub returns-clause-edits : goal.returns-clause-edits
-returns-clause-edits g c = register-edits (g.T.Tracee.stopped c.args.t.now) c.pid-pid.ensures.lives (g.T.Tracee.stopped c.set_reg.new.self) c.args.k c.args.value c.set_reg.ensures.set
+returns-clause-edits g c = record { edits = register-edits (g.T.Tracee.stopped c.args.t.now) c.pid-pid.ensures.lives (g.T.Tracee.stopped c.set_reg.new.self) c.args.k c.args.value c.set_reg.ensures.set; rest = c.set_reg.ensures.rest }

@@ -1,7 +1,7 @@
 use Rattle.std.proofs.Common.{◌∙◌, SFits, Some, ap, rules, sym, w64}
 use Rattle.std.proofs.Math.Facts.{to_z-of_z}
 use Rattle.pt_faker.specs.Stopping.{with_register}
-use Rattle.pt_faker.proofs.StopLemmas.{edited-then}
+use Rattle.pt_faker.proofs.StopLemmas.{only-then}
 use Rattle.pt_faker.specs.Faking.{word_of}
 use Rattle.pt_tracer.specs.Registers.{given_back}
 use Rattle.pt_tracer.specs.Watched.{if_answered}
@@ -18,4 +18,4 @@ returns-in-Some-clause-returned g c =
     ∙ sym (ap (λ a. if_answered a (given_back c.args.call.now.passed t)) c.in-Some.is)
 
 pub returns-in-Some-clause-edits : goal.returns-in-Some-clause-edits
-returns-in-Some-clause-edits g c = edited-then _ (g.T.Tracee.stopped c.give_back.new.t) _ c.give_back.ensures.edits c.set.ensures.edits
+returns-in-Some-clause-edits g c = only-then c.give_back.ensures.edits c.set.ensures.edits

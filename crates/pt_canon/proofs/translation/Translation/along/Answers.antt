@@ -76,8 +76,8 @@ parts-preserved g c =
       ends = on.0;
       known = on.1;
       fine = parts_behind loop.part.now following (parts_left loop.parts) more c.in-Some-next.ensures.steps loop.invariant.fine;
-      same = c.in_middle.ensures.same ∙ loop.invariant.same;
-      rest = c.in_middle.ensures.rest ∙ loop.invariant.rest;
+      same = c.in_middle.ensures.kernel.same ∙ loop.invariant.same;
+      rest = c.in_middle.ensures.kernel.rest ∙ loop.invariant.rest;
     }
 
 pub returns-in-Off-clause-answer : goal.returns-in-Off-clause-answer

@@ -20,7 +20,7 @@ returns-in_err-sight-in-Name-clause-answer g c =
     let e = c.in_err-sight-in-Name.field-0.0 in
     let residual = c.from_residual-in_err-sight-in-Name in
     let P : Peeked → Type 0 = λ p. IsSeen (texts_in self p) entry (seen_text (texts_in self p) entry) (Err e) in
-    let told : P texts.peeked = subst P c.enter.ensures.same c.in_err-sight-in-Name.ensures.answer in
+    let told : P texts.peeked = subst P c.enter.ensures.kernel.same c.in_err-sight-in-Name.ensures.answer in
     last_unseen texts c.args.terms _ (WayIs texts c.args.terms.mode c.args.terms.left (final texts c.args.terms c.args.at part (look_text texts c.args.at part))) c.args.at entry c.in-Name.name.now part e residual.result c.in_ok-enter.ensures.answer (ap component_data c.in-Name.is) c.in_ok-entry-in-Name.ensures told residual.ensures.0 residual.ensures.1
 
 pub returns-in-Dot-clause-answer : goal.returns-in-Dot-clause-answer
@@ -51,7 +51,7 @@ returns-in_ok-sight-in-Name-clause-answer g c =
     let sight = c.in_ok-sight-in-Name.sight in
     let name = c.in-Name.name.now in
     let P : Peeked → Type 0 = λ p. seen_text (texts_in self p) entry ≡ sight_seen (texts_in self p) entry sight in
-    let seen : P peeked = subst P c.enter.ensures.same c.in_ok-sight-in-Name.ensures.answer in
+    let seen : P peeked = subst P c.enter.ensures.kernel.same c.in_ok-sight-in-Name.ensures.answer in
     let Q : Peeked → Type 0 = λ p. IsWay (texts_in self p) terms.mode terms.left (last_trail (texts_in self p) terms c.args.at (Name name) (sight_seen (texts_in self p) entry sight)) c.arrive.result in
-    let told : Q peeked = subst Q (c.see.ensures.same ∙ c.enter.ensures.same) (c.arrive.ensures.answer c.args.at name c.in_ok-entry-in-Name.ensures) in
+    let told : Q peeked = subst Q (c.see.ensures.kernel.same ∙ c.enter.ensures.kernel.same) (c.arrive.ensures.answer c.args.at name c.in_ok-entry-in-Name.ensures) in
     arrive_named texts terms c.args.at entry name (component_data c.args.component) (sight_seen texts entry sight) c.arrive.result c.in_ok-enter.ensures.answer (ap component_data c.in-Name.is) c.in_ok-entry-in-Name.ensures seen told

@@ -31,6 +31,6 @@ returns-in_ok-find_directory-in-Nothing-clause-answer g c =
     let dir : peeked.kind (host_bytes texts c.args.at.now) ≡ Ok kind.Dir =
     ap peeked.kind (sym (c.as_slice-in-Nothing.ensures ∙ c.in_ok-host-in-Nothing.ensures.host)) ∙ c.in_ok-find_directory-in-Nothing.ensures.answer in
     let P : Peeked → Type 0 = λ p. IsItselfTold (p.kind (itself_in (names_of c.as_slice-in-Nothing-2.result.now))) c.find_itself-in-Nothing.result in
-    let told : P peeked = subst P c.find_directory.ensures.same c.find_itself-in-Nothing.ensures.answer in
+    let told : P peeked = subst P c.find_directory.ensures.kernel.same c.find_itself-in-Nothing.ensures.answer in
     let names = ap names_of c.as_slice-in-Nothing-2.ensures ∙ c.in_ok-host-in-Nothing.ensures.names in
     entered_itself texts c.args.at.now c.as_slice-in-Nothing-2.result.now c.find_itself-in-Nothing.result dir names told

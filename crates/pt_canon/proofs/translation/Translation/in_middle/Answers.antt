@@ -19,7 +19,7 @@ returns-in_err-sight-in-Name-clause-answer g c =
     let e = c.in_err-sight-in-Name.field-0.0 in
     let residual = c.from_residual-in_err-sight-in-Name in
     let P : Peeked → Type 0 = λ p. IsSeen (texts_in self p) entry (seen_text (texts_in self p) entry) (Err e) in
-    let told : P texts.peeked = subst P c.enter.ensures.same c.in_err-sight-in-Name.ensures.answer in
+    let told : P texts.peeked = subst P c.enter.ensures.kernel.same c.in_err-sight-in-Name.ensures.answer in
     middle_unseen texts c.args.terms _ (PassedIs texts c.args.terms rest (middle texts c.args.terms c.args.at rest (look_text texts c.args.at part))) c.args.at entry c.in-Name.name.now part rest e residual.result c.in_ok-enter.ensures.answer (ap component_data c.in-Name.is) c.in_ok-entry-in-Name.ensures told residual.ensures.0 residual.ensures.1
 
 pub returns-in-Dot-clause-answer : goal.returns-in-Dot-clause-answer
@@ -48,7 +48,7 @@ returns-in_ok-sight-in-Name-clause-answer g c =
     let entry = c.in_ok-entry-in-Name.entry in
     let sight = c.in_ok-sight-in-Name.sight in
     let P : Peeked → Type 0 = λ p. seen_text (texts_in self p) entry ≡ sight_seen (texts_in self p) entry sight in
-    let seen : P peeked = subst P c.enter.ensures.same c.in_ok-sight-in-Name.ensures.answer in
+    let seen : P peeked = subst P c.enter.ensures.kernel.same c.in_ok-sight-in-Name.ensures.answer in
     let Q : Peeked → Type 0 = λ p. IsPassed (texts_in self p) c.args.terms rest (middle_trail (texts_in self p) c.args.terms (above entry) rest (sight_seen (texts_in self p) entry sight)) c.pass.result in
-    let told : Q peeked = subst Q (c.see.ensures.same ∙ c.enter.ensures.same) c.pass.ensures.answer in
+    let told : Q peeked = subst Q (c.see.ensures.kernel.same ∙ c.enter.ensures.kernel.same) c.pass.ensures.answer in
     pass_named texts c.args.terms c.args.at entry c.in-Name.name.now (component_data c.args.component) rest (sight_seen texts entry sight) c.pass.result c.in_ok-enter.ensures.answer (ap component_data c.in-Name.is) c.in_ok-entry-in-Name.ensures seen told

@@ -21,7 +21,7 @@ returns-then-not-is_dir-clause-answer g c = λ dir name.
     let guest = c.in_ok-guest.guest in
     let now = g.K.Peeks.peeked c.jump.new.kernel in
     let told : is_dir_kind (texts.peeked.kind (text_of (host_of texts.bindings guest))) ≡ false =
-    ap (λ (p : Peeked). is_dir_kind (p.kind (text_of (host_of texts.bindings guest)))) (sym c.jump.ensures.same)
+    ap (λ (p : Peeked). is_dir_kind (p.kind (text_of (host_of texts.bindings guest)))) (sym c.jump.ensures.kernel.same)
     ∙ ap (λ h. is_dir_kind (now.kind h)) (sym (c.as_slice.ensures ∙ c.in_ok-host.ensures.host)) ∙ sym c.in_ok-is_dir.ensures.answer ∙ c.if-not-is_dir.true in
     lands_beside texts c.args.terms dir at name (host_of texts.bindings at) guest c.requires c.in_ok-guest.ensures.answer (sym c.wants_directory.ensures ∙ c.if-not-wants_directory.false) told
 
@@ -32,7 +32,7 @@ returns-clause-answer g c = λ dir name.
     let guest = c.in_ok-guest.guest in
     let now = g.K.Peeks.peeked c.jump.new.kernel in
     let told : is_dir_kind (texts.peeked.kind (text_of (host_of texts.bindings guest))) ≡ true =
-    ap (λ (p : Peeked). is_dir_kind (p.kind (text_of (host_of texts.bindings guest)))) (sym c.jump.ensures.same)
+    ap (λ (p : Peeked). is_dir_kind (p.kind (text_of (host_of texts.bindings guest)))) (sym c.jump.ensures.kernel.same)
     ∙ ap (λ h. is_dir_kind (now.kind h)) (sym (c.as_slice.ensures ∙ c.in_ok-host.ensures.host)) ∙ sym c.in_ok-is_dir.ensures.answer ∙ c.if-not-is_dir.false in
     lands_in texts c.args.terms dir at name (host_of texts.bindings at) guest c.requires c.in_ok-guest.ensures.answer told
     ∙ ap Ok (sym c.ends_at_name-2.ensures)

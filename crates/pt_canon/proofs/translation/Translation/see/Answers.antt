@@ -15,7 +15,7 @@ returns-in-Ok-clause-answer g c =
     let peeked = g.K.Peeks.peeked c.args.kernel.now in
     let texts = texts_in self peeked in
     let P : Peeked → Type 0 = λ p. IsSeen (texts_in self p) at (seen_kind (texts_in self p) at (host_of texts.bindings at) (Ok c.in-Ok.kind)) c.sight_of.result in
-    let shown : P peeked = subst P c.kind_at.ensures.same c.sight_of.ensures.answer in
+    let shown : P peeked = subst P c.kind_at.ensures.kernel.same c.sight_of.ensures.answer in
     let told : peeked.kind (host_bytes texts at) ≡ Ok c.in-Ok.kind = ap peeked.kind (sym (c.as_slice.ensures ∙ c.in_ok-host.ensures.host)) ∙ c.in-Ok.ensures.answer in
     seen_same texts at (Ok c.in-Ok.kind) c.sight_of.result told shown
 

@@ -1,11 +1,10 @@
 use Rattle.std.proofs.Common.{◌≡◌, SFits, rules, subst, w64}
 use Rattle.std.proofs.Math.Facts.{to_z-of_z}
-use Rattle.kr_stops.proofs.EditLemmas.{edited-then}
 use Rattle.pt_ident.specs.Identity.{effect}
 use Rattle.pt_ident.specs.IdentityTable.{identity_at}
 use Rattle.pt_faker.specs.Faking.{Faking, after_effect}
 use Rattle.pt_faker.proofs.FakerLemmas.{answered-here, left-alone}
-use Rattle.pt_faker.proofs.StopLemmas.{on_ok}
+use Rattle.pt_faker.proofs.StopLemmas.{on_ok, only-then}
 use Rattle.pt_faker.proofs.faker.Faker.take_up.Goals as goal
 
 pub returns-in-None-clause-enters : goal.returns-in-None-clause-enters
@@ -38,4 +37,4 @@ returns-in-Some-clause-enters g c =
     c.set-in-Some.ensures
 
 pub returns-in-Some-clause-edits : goal.returns-in-Some-clause-edits
-returns-in-Some-clause-edits g c = edited-then _ (g.T.Tracee.stopped c.answer_call.new.t) _ c.in_ok-told.ensures.edits c.take_number-number.ensures.edits
+returns-in-Some-clause-edits g c = only-then c.in_ok-told.ensures.edits c.take_number-number.ensures.edits

@@ -1,6 +1,6 @@
 use Rattle.std.proofs.Common.{◌∙◌, ap}
 use Rattle.pt_faker.specs.Stopping.{with_register}
-use Rattle.pt_faker.proofs.StopLemmas.{edited-then}
+use Rattle.pt_faker.proofs.StopLemmas.{only-then}
 use Rattle.pt_tracer.proofs.registers.Arguments.give_back.Goals as goal
 
 pub returns-clause-back : goal.returns-clause-back
@@ -15,8 +15,8 @@ returns-clause-back g c =
 
 pub returns-clause-edits : goal.returns-clause-edits
 returns-clause-edits g c =
-    let two = edited-then _ (g.T.Tracee.stopped c.set.new.t) _ c.set.ensures.edits c.set-2.ensures.edits in
-    let three = edited-then _ (g.T.Tracee.stopped c.set-2.new.t) _ two c.set-3.ensures.edits in
-    let four = edited-then _ (g.T.Tracee.stopped c.set-3.new.t) _ three c.set-4.ensures.edits in
-    let five = edited-then _ (g.T.Tracee.stopped c.set-4.new.t) _ four c.set-5.ensures.edits in
-    edited-then _ (g.T.Tracee.stopped c.set-5.new.t) _ five c.set-6.ensures.edits
+    let two = only-then c.set.ensures.edits c.set-2.ensures.edits in
+    let three = only-then two c.set-3.ensures.edits in
+    let four = only-then three c.set-4.ensures.edits in
+    let five = only-then four c.set-5.ensures.edits in
+    only-then five c.set-6.ensures.edits

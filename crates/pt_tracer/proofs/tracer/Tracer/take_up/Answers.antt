@@ -1,24 +1,24 @@
 use Rattle.std.proofs.Common.{◌≡◌, ◌∙◌, SFits, Some, None, ap, refl, rules, subst, sym, w64}
 use Rattle.std.proofs.Math.Facts.{to_z-of_z}
 use Rattle.pt_bind.specs.Binding.{rows_of}
-use Rattle.pt_faker.proofs.StopLemmas.{edited-then, on_ok}
+use Rattle.pt_faker.proofs.StopLemmas.{on_ok, only-then}
 use Rattle.pt_tracer.specs.Watched.{Tracing, by_identities}
 use Rattle.pt_tracer.proofs.EntryLemmas.{answered-entry, planned-entry}
 use Rattle.pt_tracer.proofs.tracer.Tracer.take_up.Goals as goal
 
 pub returns-in_err-edit-in-None-clause-edits : goal.returns-in_err-edit-in-None-clause-edits
-returns-in_err-edit-in-None-clause-edits g c = edited-then _ (g.T.Tracee.stopped c.answer_faked.new.t) _ c.in_ok-answer.ensures.edits c.in_err-edit-in-None.ensures.edits
+returns-in_err-edit-in-None-clause-edits g c = only-then c.in_ok-answer.ensures.edits c.in_err-edit-in-None.ensures.edits
 
 pub returns-in_err-answer-in-None-clause-edits : goal.returns-in_err-answer-in-None-clause-edits
 returns-in_err-answer-in-None-clause-edits g c =
-    edited-then _ (g.T.Tracee.stopped c.plan.new.t) _ (edited-then _ (g.T.Tracee.stopped c.answer_faked.new.t) _ c.in_ok-answer.ensures.edits c.in_ok-edit-in-None.ensures.edits) c.in_err-answer-in-None.ensures.edits
+    only-then (only-then c.in_ok-answer.ensures.edits c.in_ok-edit-in-None.ensures.edits) c.in_err-answer-in-None.ensures.edits
 
 pub returns-in-Some-clause-edits : goal.returns-in-Some-clause-edits
-returns-in-Some-clause-edits g c = edited-then _ (g.T.Tracee.stopped c.answer_faked.new.t) _ c.in_ok-answer.ensures.edits c.take_number-number.ensures.edits
+returns-in-Some-clause-edits g c = only-then c.in_ok-answer.ensures.edits c.take_number-number.ensures.edits
 
 pub returns-in_ok-answer-in-None-clause-edits : goal.returns-in_ok-answer-in-None-clause-edits
 returns-in_ok-answer-in-None-clause-edits g c =
-    edited-then _ (g.T.Tracee.stopped c.plan.new.t) _ (edited-then _ (g.T.Tracee.stopped c.answer_faked.new.t) _ c.in_ok-answer.ensures.edits c.in_ok-edit-in-None.ensures.edits) c.in_ok-answer-in-None.ensures.edits
+    only-then (only-then c.in_ok-answer.ensures.edits c.in_ok-edit-in-None.ensures.edits) c.in_ok-answer-in-None.ensures.edits
 
 pub returns-in-Some-clause-enters : goal.returns-in-Some-clause-enters
 returns-in-Some-clause-enters g c =
