@@ -8,7 +8,7 @@ use crate::apply::apply;
 use crate::laws::tracer_is_its_definition;
 use crate::pending::{Calls, Pending};
 use crate::plan::{NOWHERE, Plan};
-use crate::planning::plan;
+use crate::planning::Planner;
 use crate::registers::Arguments;
 use crate::settling::{begin, give_back, has_begun};
 use pr_base::NoMemory;
@@ -93,13 +93,12 @@ impl Tracer {
                 self.calls.keep(pid, call)
             }
             None => {
-                let Plan { edit, led } = plan(
-                    self.alloc,
-                    t,
-                    &mut self.walker,
-                    &self.tags,
-                    &request,
-                )?;
+                let planner = Planner {
+                    alloc: self.alloc,
+                    tags: &self.tags,
+                    request: &request,
+                };
+                let Plan { edit, led } = planner.plan(t, &mut self.walker)?;
                 let answer = apply(t, edit)?;
                 let call = Pending {
                     passed,
