@@ -12,7 +12,6 @@ use pt_canon::WalkErr;
 use pt_canon::below::pr_base::limits::AT_FDCWD;
 use pt_canon::below::pr_base::{BaseKind, Bytes, Errno, NoMemory, Peeks, components};
 use pt_canon::below::pt_bind::{Table, Tags};
-use std::alloc::Global;
 
 impl<'a> Caller<'a> {
     /// The guest text from which a path is taken: the root for an absolute one, else that of the working directory or of the
