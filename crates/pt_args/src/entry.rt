@@ -95,11 +95,7 @@ struct Entry<'a> {
 
 impl<'a> Entry<'a> {
     /// What becomes of it (`rewrite`), and where its first path led.
-    fn along<K: Peeks>(
-        &self,
-        kernel: &mut K,
-        walker: &mut Walker,
-    ) -> Result<Rewritten, NoMemory>
+    fn along<K: Peeks>(&self, kernel: &mut K, walker: &mut Walker) -> Result<Rewritten, NoMemory>
         requires { IsTrue self.now.shelf → 65536 ≤ self.now.sp }
         ensures edit { let texts = texts_by walker.old (K.peeked kernel.old) self.now.caller.tags.now in
             IfOk result (λ r. r.edit ≡ edit_of texts self.now.caller.pid self.now.sp self.now.shelf self.now.request.now) }

@@ -81,11 +81,7 @@ impl<'a> Planner<'a> {
     }
 
     /// The answer of getcwd(2), or of readlinkat(2) of a link of the process directory.
-    fn answered<T: Tracee>(
-        &self,
-        t: &mut T,
-        walker: &mut Walker,
-    ) -> Result<Option<Edit>, NoMemory>
+    fn answered<T: Tracee>(&self, t: &mut T, walker: &mut Walker) -> Result<Option<Edit>, NoMemory>
         ensures edit { IfOk result (λ edit. edit ≡ answered (texts_at (rows_of walker.old) self.now.tags.now (T.stopped t.old)) (T.stopped t.old) self.now.request.now) }
         ensures walker { walker.new ≡ walker.old }
         ensures process { OnlyPeeks T.stopped T.around t.old t.new }
@@ -139,7 +135,16 @@ impl<'a> Planner<'a> {
         let pid = t.pid();
         let sp = t.reg(STACK);
         let shelf = has_shelf(t);
-        rewrite_along(self.alloc, t, walker, self.tags, pid, sp, shelf, self.request)
+        rewrite_along(
+            self.alloc,
+            t,
+            walker,
+            self.tags,
+            pid,
+            sp,
+            shelf,
+            self.request,
+        )
     }
 }
 
@@ -265,7 +270,16 @@ impl<'a> ExecvePlanner<'a> {
         let pid = t.pid();
         let Handed { args, env_bytes } = handed;
         let planner = self.planner;
-        expand(planner.alloc, t, walker, planner.tags, pid, self.path, args, env_bytes)
+        expand(
+            planner.alloc,
+            t,
+            walker,
+            planner.tags,
+            pid,
+            self.path,
+            args,
+            env_bytes,
+        )
     }
 
     /// What becomes of a script, where `kept` of its caller's arguments are kept.
