@@ -28,10 +28,11 @@ impl<'a> Launcher<'a> {
         if !is_walked(path) {
             return Ok(false);
         }
+        let working = Some(self.working);
         let finder = Finder {
             alloc: self.alloc,
             tags: self.tags,
-            working: Some(self.working),
+            working,
         };
         match finder.program_from(kernel, walker, path) {
             Ok(_program) => Ok(true),

@@ -118,10 +118,11 @@ impl<'a> Launcher<'a> {
         ensures walker { walker.new ≡ walker.old }
         ensures kernel { OnlyPeeks K.peeked K.kept kernel.old kernel.new }
     {
+        let working = Some(self.working);
         let finder = Finder {
             alloc: self.alloc,
             tags: self.tags,
-            working: Some(self.working),
+            working,
         };
         match env_bytes(&args, env) {
             Some(env_bytes) => finder.expand_from(kernel, walker, path, args, env_bytes),

@@ -75,7 +75,7 @@ fn bytes_of(text: &Option<Bytes>) -> Option<&[u8]>
     }
 }
 
-impl<'a> Finder<'a> {
+impl<'t, 'w> Finder<'t, 'w> {
     /// The program that execve(2) runs in the end, as `expand` finds it, from the working directory.
     pub fn expand_from<K: Peeks>(
         &self,

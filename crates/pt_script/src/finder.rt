@@ -5,8 +5,8 @@ use std::alloc::Global;
 
 /// What programs are found by: the tags of all processes, and the guest text of the working directory, if it has one.
 #[derive(Clone, Copy)]
-pub struct Finder<'a> {
+pub struct Finder<'t, 'w> {
     pub alloc: Global,
-    pub tags: &'a Tags,
-    pub working: Option<&'a [u8]>,
+    pub tags: &'t Tags,
+    pub working: Option<&'w [u8]>,
 }

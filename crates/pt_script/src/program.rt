@@ -32,7 +32,7 @@ pub struct Program {
     pub head: Bytes,
 }
 
-impl<'a> Finder<'a> {
+impl<'t, 'w> Finder<'t, 'w> {
     /// The program at a guest path, a last link followed: ENOENT where the path is relative and there is no working directory
     /// with a guest text, then the errors of the walk, and EACCES where it leads to no regular file that the user may execute.
     pub fn program_from<K: Peeks>(

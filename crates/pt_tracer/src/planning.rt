@@ -58,8 +58,9 @@ impl<'a> Planner<'a> {
         let Some(path) = path_of(self.request, 0) else {
             return self.plan_for(t, walker);
         };
+        let planner = *self;
         let execve = ExecvePlanner {
-            planner: *self,
+            planner,
             path: path.text,
             lists,
         };
