@@ -1,5 +1,5 @@
 //! Laws of turns, each carried by a function that does nothing.
-ghost use Rattle.kr_turns.specs.Laws.{TargetsAreTold, TurnsAreFunctions};
+ghost use Rattle.kr_turns.specs.Laws.{PlainCallsLeaveShape, TargetsAreTold, TurnsAreFunctions};
 ghost use Rattle.kr_stops.specs.Watching.{watching};
 
 use kr_stops::Stops;
@@ -12,4 +12,9 @@ pub fn turns_are_functions<S: Stops>()
 /// The target of a call that looks up one path, or has none, is a function of what it is told of that path and of what it knows.
 pub fn targets_are_told()
     ensures { TargetsAreTold }
+{}
+
+/// A call leaves the shape of the tree, and the user, where its caller's registers hold none that can alter the shape.
+pub fn plain_calls_leave_shape()
+    ensures { PlainCallsLeaveShape }
 {}
