@@ -16,7 +16,7 @@ use Rattle.kr_first.specs.declared.starting.StartFault.TheVariants as fault
 use Rattle.kr_turns.specs.Agreeing.{AgreesIn}
 use Rattle.kr_turns.specs.Making.{machine_of}
 use Rattle.kr_turns.specs.Run.{cleared}
-use Rattle.kr_turns.specs.Turn.{IsTurnOf, Machine}
+use Rattle.kr_turns.specs.Turn.{IsTurnOf, Machine, with_part}
 use Rattle.kr_turns.specs.kr_stops.Watching.{Watching}
 use Rattle.kr_core.specs.declared.kernel.Turned.{Turned}
 use Rattle.kr_core.specs.declared.kernel.Turned.TheVariants.{Ran, Deadlock, Over}
@@ -99,3 +99,7 @@ module _ {P S T : Type 0} {M : ℕ} (number : T → ℕ) where
     pub broken : new.broken ≡ old.broken
     pub turns : new.turns ≡ old.turns
     pub whole : new.whole ≡ old.whole
+
+-- the machine of a kernel, with a part of what its watcher keeps
+abbrev pub machine_by : {P S Q T : Type 0} {M : ℕ} → (T → ℕ) → (S → Q) → Kernel P S T M → Machine Q
+machine_by number part k = with_part part (machine number k)

@@ -11,17 +11,17 @@ use Rattle.kr_seen.specs.kr_model.Walks.{seen}
 use Rattle.kr_steps.specs.Waiting.{picked_process}
 use Rattle.kr_turns.specs.PlainCall.{operated, plain_call}
 use Rattle.kr_turns.specs.Target.{IsLookedAt, instead_of, target_by}
-use Rattle.kr_turns.specs.Turn.{IsTurnOf, Machine, turn}
+use Rattle.kr_turns.specs.Turn.{IsTurnOf, Machine, turn, with_part}
 use Rattle.kr_stops.specs.Remembering.{can_alter_shape}
 use Rattle.kr_stops.specs.Stopped.{image_in}
 use Rattle.kr_stops.specs.Watching.{IsGraph, Watcher, Watching}
 
--- where the relations of a watcher are the graphs of functions, a turn by the relations is the turn by the functions; and where no
--- process is ready nothing changes
-pub record TurnsAreFunctions {S : Type 0} (w : Watching S) : Type 0 where
-  pub turns : (f : Watcher S) (marks : ℕ) (table : List Row) (pick fuel : ℕ) (p : Process ℕ Image) (old new : Machine S) → IsGraph w f
-      → picked_process old.state pick ≡ Some p → IsTurnOf w marks table fuel p old new → new ≡ turn f marks table pick fuel old
-  pub rests : (f : Watcher S) (marks : ℕ) (table : List Row) (pick fuel : ℕ) (m : Machine S) → picked_process m.state pick ≡ None → turn f marks table pick fuel m ≡ m
+-- where the relations of a watcher are the graphs of functions on a part of what it keeps, a turn by the relations is the turn by the
+-- functions on that part; and where no process is ready nothing changes
+pub record TurnsAreFunctions {S Q : Type 0} (part : S → Q) (w : Watching S) : Type 0 where
+  pub turns : (f : Watcher Q) (marks : ℕ) (table : List Row) (pick fuel : ℕ) (p : Process ℕ Image) (old new : Machine S) → IsGraph part w f
+      → picked_process old.state pick ≡ Some p → IsTurnOf w marks table fuel p old new → with_part part new ≡ turn f marks table pick fuel (with_part part old)
+  pub rests : (f : Watcher Q) (marks : ℕ) (table : List Row) (pick fuel : ℕ) (m : Machine Q) → picked_process m.state pick ≡ None → turn f marks table pick fuel m ≡ m
 
 -- the target of a call that looks up one path, or has none, is a function of what it is told and knows
 abbrev pub TargetsAreTold : Type 0

@@ -70,6 +70,11 @@ impl Stops for Watch {
 
 impl Graphed for Watch {
     ghost use Rattle.pt_faker.specs.Watches.{watch};
+    ghost use Rattle.pt_faker.specs.declared.watch.Watch.{Watch};
+
+    ghost Part = { Watch };
+
+    ghost part = { λ x. x };
 
     ghost does = { watch };
 

@@ -198,7 +198,11 @@ impl Stops for Tracer {
 }
 
 impl Graphed for Tracer {
-    ghost use Rattle.pt_tracer.specs.Watched.{tracer};
+    ghost use Rattle.pt_tracer.specs.Watched.{Tracing, tracer};
+
+    ghost Part = { Tracing };
+
+    ghost part = { λ x. x };
 
     ghost does = { tracer };
 
