@@ -147,6 +147,10 @@ impl Stops for Tracer {
 
     ghost forgets = { λ x pid y. y ≡ gone x pid };
 
+    ghost agrees = { λ x t user. Unit {0} };
+
+    ghost is_free = { λ x pid. Unit {0} };
+
     fn entry<T: Tracee>(&mut self, t: &mut T) -> Result<(), NoMemory> {
         let pid = t.pid();
         match t.request() {
@@ -186,10 +190,18 @@ impl Stops for Tracer {
             None => {}
         }
     }
+
+    ghost free_agrees = { λ x pid free t user. tt };
+
+    ghost lasts_with_shape = { λ x t u user sound shape before. tt };
 }
 
 impl Graphed for Tracer {
-    ghost use Rattle.pt_tracer.specs.Watched.{tracer};
+    ghost use Rattle.pt_tracer.specs.Watched.{Tracing, tracer};
+
+    ghost Part = { Tracing };
+
+    ghost part = { λ x. x };
 
     ghost does = { tracer };
 
