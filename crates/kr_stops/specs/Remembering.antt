@@ -42,12 +42,12 @@ module _ {S : Type 0} (agrees : S → Tree → User → Type 0) where
 
 module _ {S : Type 0} (is_free : S → ℕ → Type 0) where
   -- for the caller of a call that can alter the shape of the tree
-  abbrev pub FreesCaller : Stopped → S → Type 0
-  FreesCaller t x = can_alter_shape (image_at t).regs ≡ true → is_free x t.pid
+  pub record FreesCaller (t : Stopped) (x : S) : Type 0 where
+    pub frees : can_alter_shape (image_at t).regs ≡ true → is_free x t.pid
 
   -- for all but one it stays so
-  abbrev pub KeepsOthersFree : ℕ → S → S → Type 0
-  KeepsOthersFree pid x y = (other : ℕ) → other ≢ pid → is_free x other → is_free y other
+  pub record KeepsOthersFree (pid : ℕ) (x y : S) : Type 0 where
+    pub keeps : (other : ℕ) → other ≢ pid → is_free x other → is_free y other
 
   -- for all it does
   abbrev pub KeepsAllFree : S → S → Type 0

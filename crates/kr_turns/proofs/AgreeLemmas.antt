@@ -133,7 +133,7 @@ module _ {S : Type 0} (agrees : S → Tree → User → Type 0) where
         where
           by : (b : Bool) → can_alter_shape (image_in pid (state_numbered number (meaning entered))).regs ≡ b
               → agrees x (plain_call table pid (state_numbered number (meaning entered))).state.tree (plain_call table pid (state_numbered number (meaning entered))).state.user
-          by true alters = free x pid (frees alters) _ _
+          by true alters = free x pid (frees.frees alters) _ _
           by false alters =
               let s = state_numbered number (meaning entered) in
               still-agrees x s (plain_call table pid s).state kept.sound (plainly-keeps table pid s kept alters) before
