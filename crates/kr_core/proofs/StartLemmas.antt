@@ -41,7 +41,7 @@ module _ (t u : Tree) (same : (i : ℕ) → node u i ≡ node t i) where
   nodes-shape : HasShape t u
   nodes-shape = record { names = named-alike; nodes = λ text i way. ap (option_map without_bytes) (same i) }
 
-node_told : Option Inode → Option Node
+abbrev node_told : Option Inode → Option Node
 node_told o = option_map (λ x. x.node) o
 
 same-state : (s t : model.State ℕ Image) → ◌≡◌ {A = Result (model.State ℕ Image) Errno} (Ok s) (Ok t) → s ≡ t
