@@ -1,7 +1,8 @@
 //! What walks over guest texts are tried on.
 
+use crate::kernel::Told;
 use crate::texts::is_text;
-use crate::told::{Stands, Told};
+use crate::told::Stands;
 use kr_calls::Request;
 use pr_base::{Errno, Last, NoMemory, Texts, WalkMode};
 use pt_args::{Edit, rewrite};
