@@ -1,5 +1,5 @@
 -- Rows that pass a test that computes are settled.
-use Rattle.std.proofs.Common.{◌≡◌, ℕ, zero, suc, Bool, true, false, not, Option, Some, None, List, [], ◌∷◌, map, nat_eq, slice_get, refl, ap, sym, ◌∙◌, IfSome}
+use Rattle.std.proofs.Common.{◌≡◌, ◌++◌, ℕ, zero, suc, Bool, true, false, not, Option, Some, None, List, [], ◌∷◌, map, nat_eq, slice_get, refl, ap, sym, ◌∙◌, IfSome}
 use Rattle.std.specs.Prelude.{◌&&◌, ◌==◌}
 use Rattle.std.specs.List.{list_all}
 use Rattle.std.specs.Str.{bytes_eq}
@@ -105,3 +105,7 @@ bounds_by_test source rows are apart =
 -- a row by its names, the deepest first
 abbrev pub row : ℕ → Text → Text → Text → MountText
 row index location source point = record { index = index; location = location; source = source; point = Some point }
+
+-- a list to which one is added at the end, where what it was before is known
+pub added : (A : Type 0) (x : A) (old new known : List A) → new ≡ old ++ x ∷ [] → old ≡ known → new ≡ known ++ x ∷ []
+added A x old new known e is = e ∙ ap (λ l. l ++ x ∷ []) is

@@ -7,12 +7,16 @@
 
 #[cfg(test)]
 mod bindings;
-pub mod tables;
+#[cfg(test)]
+mod kernel;
+#[cfg(test)]
+mod tables;
 #[cfg(test)]
 mod tags;
 #[cfg(test)]
 mod tests;
-pub mod texts;
+#[cfg(test)]
+mod texts;
 pub mod told;
 #[cfg(test)]
 mod walking;

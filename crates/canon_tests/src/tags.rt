@@ -49,11 +49,10 @@ fn tag(tags: &Tags, pid: u32, slot: Slot) -> u32 {
 }
 
 /// The first row that the tags don't meet, if there is one.
-fn unmet(tags: &Tags, rows: &[Row]) -> Option<Row> {
+fn unmet<'a>(tags: &Tags, rows: &'a [Row]) -> Option<&'a Row> {
     for row in rows {
-        let (pid, slot, wanted) = *row;
-        if tag(tags, pid, slot) != wanted {
-            return Some(*row);
+        if tag(tags, row.0, row.1) != row.2 {
+            return Some(row);
         }
     }
     None

@@ -1,7 +1,8 @@
 //! What walks over guest texts are tried on.
 
+use crate::kernel::Told;
 use crate::texts::is_text;
-use crate::told::{Stands, Told};
+use crate::told::Stands;
 use kr_calls::Request;
 use pr_base::{Errno, Last, NoMemory, Texts, WalkMode};
 use pt_args::{Edit, rewrite};
@@ -72,13 +73,17 @@ impl Bench {
             .canon(&mut self.told, &self.tags, base, path, mode)
     }
 
+    /// Whether a walk answers what it must.
+    fn answers(&mut self, case: &Case) -> bool {
+        let answer = self.walk(case.0, case.1, case.2);
+        meets(&answer, case.3)
+    }
+
     /// The first of these walks that doesn't answer what it must, if there is one.
-    pub fn unmet(&mut self, cases: &[Case]) -> Option<Case> {
+    pub fn unmet<'a>(&mut self, cases: &'a [Case]) -> Option<&'a Case> {
         for case in cases {
-            let (base, path, mode, want) = *case;
-            let answer = self.walk(base, path, mode);
-            if !meets(&answer, want) {
-                return Some(*case);
+            if !self.answers(case) {
+                return Some(case);
             }
         }
         None
@@ -156,78 +161,74 @@ impl Bench {
     }
 }
 
+/// The directories of the tree, each of which can be searched.
+const DIRS: &[&[u8]] = &[
+    b"/data",
+    b"/other",
+    b"/other/x",
+    b"/a",
+    b"/proc",
+    b"/proc/1",
+    b"/proc/1/fd",
+    b"/g",
+    b"/g/a",
+    b"/g/a/x",
+    b"/g/a/b",
+    b"/g/b",
+    b"/g/mnt",
+    b"/g/proc",
+];
+
+const FILES: &[&[u8]] = &[
+    b"/data/n",
+    b"/other/o",
+    b"/new",
+    b"/g/f",
+    b"/g/h",
+    b"/g/a/b/f",
+    b"/g/mntx",
+];
+
+/// Links, and their texts.
+const LINKS: &[(&[u8], &[u8])] = &[
+    (b"/data/abs", b"/f"),
+    (b"/data/up", b"/../../f"),
+    (b"/data/out", b"../f"),
+    (b"/data/dir", b"../a/"),
+    (b"/data/lost", b"z"),
+    (b"/g/out", b"/mnt/n"),
+    (b"/g/in", b"mnt/n"),
+    (b"/g/loop", b"loop"),
+    (b"/g/empty", b""),
+    (b"/proc/self", b"1"),
+];
+
+const JUMPS: &[&[u8]] = &[
+    b"/proc/1/cwd",
+    b"/proc/1/exe",
+    b"/proc/1/root",
+    b"/proc/1/fd/3",
+    b"/proc/1/fd/4",
+    b"/proc/1/fd/5",
+    b"/proc/1/fd/7",
+];
+
 /// A kernel with the tree of which these tests speak.
 pub fn listed(alloc: Global) -> Result<Told, NoMemory> {
     let mut told = Told::new(alloc, 1_000_000);
     told.add_root()?;
-    let dirs: [&[u8]; 14] = [
-        b"/data",
-        b"/other",
-        b"/other/x",
-        b"/a",
-        b"/proc",
-        b"/proc/1",
-        b"/proc/1/fd",
-        b"/g",
-        b"/g/a",
-        b"/g/a/x",
-        b"/g/a/b",
-        b"/g/b",
-        b"/g/mnt",
-        b"/g/proc",
-    ];
-    for dir in dirs {
+    for dir in DIRS {
         told.add_dir(dir, Stands::Dir)?;
     }
     told.add_dir(b"/g/closed", Stands::Fails(Errno::EACCES))?;
-    add_files(&mut told)?;
-    add_links(&mut told)?;
-    Ok(told)
-}
-
-fn add_files(told: &mut Told) -> Result<(), NoMemory> {
-    let files: [&[u8]; 7] = [
-        b"/data/n",
-        b"/other/o",
-        b"/new",
-        b"/g/f",
-        b"/g/h",
-        b"/g/a/b/f",
-        b"/g/mntx",
-    ];
-    for file in files {
+    for file in FILES {
         told.add(file, Stands::File)?;
     }
-    Ok(())
-}
-
-fn add_links(told: &mut Told) -> Result<(), NoMemory> {
-    let links: [(&[u8], &[u8]); 10] = [
-        (b"/data/abs", b"/f"),
-        (b"/data/up", b"/../../f"),
-        (b"/data/out", b"../f"),
-        (b"/data/dir", b"../a/"),
-        (b"/data/lost", b"z"),
-        (b"/g/out", b"/mnt/n"),
-        (b"/g/in", b"mnt/n"),
-        (b"/g/loop", b"loop"),
-        (b"/g/empty", b""),
-        (b"/proc/self", b"1"),
-    ];
-    for (host, text) in links {
-        told.add_link(host, text)?;
+    for link in LINKS {
+        told.add_link(link.0, link.1)?;
     }
-    let jumps: [&[u8]; 7] = [
-        b"/proc/1/cwd",
-        b"/proc/1/exe",
-        b"/proc/1/root",
-        b"/proc/1/fd/3",
-        b"/proc/1/fd/4",
-        b"/proc/1/fd/5",
-        b"/proc/1/fd/7",
-    ];
-    for jump in jumps {
+    for jump in JUMPS {
         told.add(jump, Stands::Jump)?;
     }
-    Ok(())
+    Ok(told)
 }

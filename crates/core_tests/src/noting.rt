@@ -120,6 +120,10 @@ impl Stops for Noting {
 
     ghost forgets = { λ x pid y. Unit {0} };
 
+    ghost agrees = { λ x t user. Unit {0} };
+
+    ghost is_free = { λ x pid. Unit {0} };
+
     fn entry<T: Tracee>(&mut self, t: &mut T) -> Result<(), NoMemory> {
         self.note("e", t.pid(), "")?;
         match t.reg(A7) {
@@ -154,4 +158,8 @@ impl Stops for Noting {
         // A note that finds no memory is missing.
         let _noted = self.note("g", pid, "");
     }
+
+    ghost free_agrees = { λ x pid free t user. tt };
+
+    ghost lasts_with_shape = { λ x t u user sound shape before. tt };
 }

@@ -1,6 +1,8 @@
 -- A kernel as its callers see it, its start, and its turns.
 use Rattle.std.specs.Prelude.{◌≡◌, ◌≢◌, ◌<◌, ◌^◌, ℕ, suc, Bool, true, List, [], length, Option, Some, None, nat_eq, Result, Ok, Err, if◌then◌else◌}
 use Rattle.pr_base.specs.declared.errno.Errno.{Errno}
+use Rattle.kr_first.specs.kr_inode.declared.user.User.{User}
+use Rattle.kr_first.specs.kr_tree.Tree.{Tree}
 use Rattle.kr_turns.specs.kr_view.declared.target.Reach.{Reach}
 use Rattle.kr_turns.specs.kr_view.View.{Row}
 use Rattle.kr_first.specs.kr_model.State as model
@@ -11,9 +13,10 @@ use Rattle.kr_turns.specs.Steps.{Runs, picked_process}
 use Rattle.kr_turns.specs.kr_calm.Calm.{broken_at_start}
 use Rattle.kr_first.specs.declared.starting.StartFault.{StartFault}
 use Rattle.kr_first.specs.declared.starting.StartFault.TheVariants as fault
+use Rattle.kr_turns.specs.Agreeing.{AgreesIn}
 use Rattle.kr_turns.specs.Making.{machine_of}
 use Rattle.kr_turns.specs.Run.{cleared}
-use Rattle.kr_turns.specs.Turn.{IsTurnOf, Machine}
+use Rattle.kr_turns.specs.Turn.{IsTurnOf, Machine, with_part}
 use Rattle.kr_turns.specs.kr_stops.Watching.{Watching}
 use Rattle.kr_core.specs.declared.kernel.Turned.{Turned}
 use Rattle.kr_core.specs.declared.kernel.Turned.TheVariants.{Ran, Deadlock, Over}
@@ -39,10 +42,11 @@ module _ {P S T : Type 0} {M : ℕ} (number : T → ℕ) where
   machine k = machine_of number k.state k.stops (record { status = k.status; broken = k.broken })
 
   -- what holds of every kernel
-  pub record Stands (mounts : P → List Row) (k : Kernel P S T M) : Type 0 where
+  pub record Stands (mounts : P → List Row) (agrees : S → Tree → User → Type 0) (k : Kernel P S T M) : Type 0 where
     pub named : SourcesAreNamed (mounts k.places)
     pub few : length (mounts k.places) < 2 ^ 32
     pub runs : k.whole ≡ true → Runs number (mounts k.places) k.turns k.state
+    pub agreement : k.whole ≡ true → AgreesIn agrees k.stops k.state
 
   -- ---- a start
 
@@ -95,3 +99,7 @@ module _ {P S T : Type 0} {M : ℕ} (number : T → ℕ) where
     pub broken : new.broken ≡ old.broken
     pub turns : new.turns ≡ old.turns
     pub whole : new.whole ≡ old.whole
+
+-- the machine of a kernel, with a part of what its watcher keeps
+abbrev pub machine_by : {P S Q T : Type 0} {M : ℕ} → (T → ℕ) → (S → Q) → Kernel P S T M → Machine Q
+machine_by number part k = with_part part (machine number k)

@@ -3,5 +3,4 @@
 pub use kr_first::laws::roots_are_directories;
 pub use kr_first::{First, StartFault, directory_at};
 pub use kr_turns::below::Rule;
-pub use kr_turns::laws::turns_are_functions;
 pub use kr_turns::{Stops, Tracee};

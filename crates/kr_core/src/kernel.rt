@@ -15,7 +15,9 @@ ghost use Rattle.kr_turns.specs.kr_view.View.{StandsIn};
 
 use kr_first::below::{Tree, User};
 use kr_first::{First, StartFault, start};
-use kr_turns::below::{Places, Reach, Rule, State, lawful_states_are_sound, reaches_too_far};
+use kr_turns::below::{
+    Places, Reach, Rule, State, lawful_states_are_sound, reaches_too_far, trees_are_kept,
+};
 use kr_turns::{Stops, make_turn, picked, ready};
 use pr_base::{Bytes, NoMemory};
 use std::alloc::Global;
@@ -61,12 +63,13 @@ impl<P: Places, S: Stops, const MARKED: u8> Model for Kernel<P, S, MARKED> {
 
     ghost view = { λ k. record { places = k.places; stops = k.stops; state = k.state; status = k.status; broken = k.broken; turns = k.turns; whole = k.whole } };
 
-    ghost invariant = { λ k. kernel.Stands P.number P.mounts (record { places = k.places; stops = k.stops; state = k.state; status = k.status; broken = k.broken; turns = k.turns; whole = k.whole }) };
+    ghost invariant = { λ k. kernel.Stands P.number P.mounts S.agrees (record { places = k.places; stops = k.stops; state = k.state; status = k.status; broken = k.broken; turns = k.turns; whole = k.whole }) };
 }
 
 impl<P: Places + Drop, S: Stops + Drop, const MARKED: u8> Kernel<P, S, MARKED> {
     /// A kernel over a tree that nothing holds and in which the view's mounts stand, with its first process, which is that of execve(2):
-    /// so are the errors. Each source of a mount is held once. The working directory must be a directory.
+    /// so are the errors. Each source of a mount is held once. The working directory must be a directory, and what the watcher remembers must be
+    /// so in the tree.
     pub fn start(
         alloc: Global,
         places: P,
@@ -84,6 +87,7 @@ impl<P: Places + Drop, S: Stops + Drop, const MARKED: u8> Kernel<P, S, MARKED> {
         requires named { SourcesAreNamed (P.mounts places) }
         requires text { IsText first.path }
         requires cwd { LeadsToDirectory (P.mounts places) tree user first.cwd }
+        requires agrees { S.agrees stops tree user }
         ensures { Starts P.number places stops (start_reach (P.mounts places) tree user first) (start_of (P.mounts places) tree user input first) result }
     {
         match Kernel::<P, S, MARKED>::start_judged(alloc, places, stops, tree, user, input, first) {
@@ -110,8 +114,10 @@ impl<P: Places + Drop, S: Stops + Drop, const MARKED: u8> Kernel<P, S, MARKED> {
         requires named { SourcesAreNamed (P.mounts places) }
         requires text { IsText first.path }
         requires cwd { LeadsToDirectory (P.mounts places) tree user first.cwd }
+        requires agrees { S.agrees stops tree user }
         ensures { StartsJudged P.number places stops (start_reach (P.mounts places) tree user first) (start_of (P.mounts places) tree user input first) result }
     {
+        trees_are_kept(&tree);
         match start(alloc, &places, tree, user, input, first) {
             Ok(started) => {
                 let broken = first_rule::<MARKED>(&started.reach);

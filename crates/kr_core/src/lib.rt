@@ -10,7 +10,8 @@
 //!
 //! `Kernel::turn` runs the process that is picked, and that turn is the definition's (`turns`; `HasRun`): state, watcher, status and the rule
 //! that was broken first. Over comes exactly where no process lives, Deadlock exactly where one lives and none is ready, and both change nothing.
-//! It asks for fuel, for a kernel in which no memory was wanting, and for fewer than 2^31 turns before it.
+//! It asks for fuel, for a kernel in which no memory was wanting, and for fewer than 2^31 turns before it. What its watcher keeps agrees with its tree
+//! from the start on (`agrees` of `Kernel::start`; `agreement` of `Stands`).
 //!
 //! `ready`, `living`, `out`, `err`, `status`, `broken` and `tree` tell exactly that of the state, and `clear_bytes` forgets the bytes and nothing
 //! else (`Clears`).

@@ -27,7 +27,7 @@ from-move made e h k = λ j. record { kind = e j; machine = h j; paused = k j }
 from-call : {S : Type 0} (c : Carried S) {m : Machine S} {a : After} → c.machine ≡ m → c.after ≡ a → c ≡ record { machine = m; after = a }
 from-call c e h = λ j. record { machine = e j; after = h j }
 
-module _ {S : Type 0} (w : Watching S) (f : Watcher S) (marks : ℕ) (table : List Row) (graph : IsGraph w f) where
+module _ {S : Type 0} (w : Watching S) (f : Watcher S) (marks : ℕ) (table : List Row) (graph : IsGraph (λ x. x) w f) where
   born-joined : (pid : ℕ) (child : Option ℕ) (x y : S) → IsBorn w pid child x y → y ≡ after_born f pid child x
   born-joined pid None x y is = is
   born-joined pid (Some child) x y is = graph.bears x y pid child is

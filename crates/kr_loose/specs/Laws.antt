@@ -20,6 +20,6 @@ pub record WatchedCallsAreThreeSteps {S : Type 0} (w : Watching S) : Type 0 wher
 -- where the relations of a watcher are the graphs of functions, a step by the relations is the step by the functions; and where no
 -- process is ready nothing changes
 pub record StepsAreFunctions {S : Type 0} (w : Watching S) : Type 0 where
-  pub steps : (f : Watcher S) (marks : ℕ) (table : List Row) (pick fuel : ℕ) (p : Process ℕ Image) (old new : Loose S) → IsGraph w f
+  pub steps : (f : Watcher S) (marks : ℕ) (table : List Row) (pick fuel : ℕ) (p : Process ℕ Image) (old new : Loose S) → IsGraph (λ x. x) w f
       → picked_process old.machine.state pick ≡ Some p → IsStepOf w marks table pick fuel p old new → new ≡ step f marks table pick fuel old
   pub rests : (f : Watcher S) (marks : ℕ) (table : List Row) (pick fuel : ℕ) (l : Loose S) → picked_process l.machine.state pick ≡ None → step f marks table pick fuel l ≡ l

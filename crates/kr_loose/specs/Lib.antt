@@ -2,7 +2,7 @@ pub use Rattle.kr_turns.specs.kr_view as kr_view
 pub use Rattle.kr_turns.specs.kr_model as kr_model
 pub use Rattle.kr_turns.specs.kr_stops as kr_stops
 pub use Rattle.kr_turns.specs as kr_turns
-pub use Rattle.law_steady.specs as law_steady
+pub use Rattle.kr_turns.specs.law_steady as law_steady
 pub mod CallSteps
 pub mod Between
 pub mod LooseRun

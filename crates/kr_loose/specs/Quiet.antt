@@ -7,7 +7,7 @@ use Rattle.kr_turns.specs.Breaking.{nothing_reached}
 use Rattle.kr_turns.specs.PlainCall.{plain_reach}
 use Rattle.kr_turns.specs.Turn.{calling}
 use Rattle.kr_turns.specs.kr_stops.Stopped.{Stopped}
-use Rattle.law_steady.specs.Bytes.{HasBytes}
+use Rattle.kr_turns.specs.law_steady.Bytes.{HasBytes}
 use Rattle.kr_loose.specs.LooseRun.{Step, StepKind, Instructions, Entry, Plain, Exit}
 
 -- ---- what others do during a call

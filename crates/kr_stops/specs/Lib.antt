@@ -3,3 +3,4 @@ pub use Rattle.law_lawful.specs as law_lawful
 pub mod Stopped
 pub mod Editing
 pub mod Watching
+pub mod Remembering

@@ -16,12 +16,12 @@ pub record Watcher (S : Type 0) : Type 0 where
   pub born : S → (parent child : ℕ) → S
   pub gone : S → (pid : ℕ) → S
 
--- the relations are the graphs of the functions
-pub record IsGraph {S : Type 0} (watching : Watching S) (watcher : Watcher S) : Type 0 where
-  pub enters : (x y : S) (t u : Stopped) → watching.enters x t y u → (y, u) ≡ watcher.entry x t
-  pub exits : (x y : S) (t u : Stopped) → watching.exits x t y u → (y, u) ≡ watcher.exit x t
-  pub bears : (x y : S) (parent child : ℕ) → watching.bears x parent child y → y ≡ watcher.born x parent child
-  pub forgets : (x y : S) (pid : ℕ) → watching.forgets x pid y → y ≡ watcher.gone x pid
+-- on a part of what is kept, the relations are the graphs of the functions: what is kept beside it shows nowhere
+pub record IsGraph {S Q : Type 0} (part : S → Q) (watching : Watching S) (watcher : Watcher Q) : Type 0 where
+  pub enters : (x y : S) (t u : Stopped) → watching.enters x t y u → (part y, u) ≡ watcher.entry (part x) t
+  pub exits : (x y : S) (t u : Stopped) → watching.exits x t y u → (part y, u) ≡ watcher.exit (part x) t
+  pub bears : (x y : S) (parent child : ℕ) → watching.bears x parent child y → part y ≡ watcher.born (part x) parent child
+  pub forgets : (x y : S) (pid : ℕ) → watching.forgets x pid y → part y ≡ watcher.gone (part x) pid
 
 -- nobody watches
 abbrev pub unwatched : {S : Type 0} → Watcher S

@@ -2,6 +2,7 @@
 ghost use Rattle.std.specs.Prelude.{◌≡◌, ◌≤◌, ◌<◌, ◌↔◌, ℕ, IsErrOf, IsOk, IsTrue, length, OnOk, OnErr, false};
 ghost use Rattle.law_lawful.specs.rv_mem.Pages.{allows_all, bytes_from};
 ghost use Rattle.law_lawful.specs.kr_model.Peeks.{peeked_of};
+ghost use Rattle.law_lawful.specs.kr_tree.Lawful.{IsSound};
 ghost use Rattle.kr_stops.specs.Stopped.{Stopped, IsThere};
 ghost use Rattle.kr_stops.specs.Editing.{after_peek, after_poke, after_request, memory_at, register_at, with_register, Decodes};
 
@@ -18,10 +19,11 @@ pub trait Tracee: Peeks {
 
     ghost around: { Self → Around };
 
-    /// The process, which lives.
+    /// The process, which lives, in a state whose tree is sound.
     fn pid(&self) -> u32
         ensures pid { result ≡ (stopped self.now).pid }
-        ensures lives { IsThere (stopped self.now) };
+        ensures lives { IsThere (stopped self.now) }
+        ensures sound { IsSound (stopped self.now).state.tree };
 
     /// A register of it.
     fn reg(&self, k: u8) -> u64

@@ -8,6 +8,7 @@ pub use Rattle.kr_execve.proofs.kr_exec as kr_exec
 pub use Rattle.kr_calm.proofs as kr_calm
 pub use Rattle.kr_steps.proofs as kr_steps
 pub use Rattle.kr_stops.proofs as kr_stops
+pub use Rattle.law_steady.proofs as law_steady
 pub mod EditingLemmas
 pub mod HereLemmas
 pub mod NumberLemmas
@@ -19,3 +20,5 @@ pub mod NotedLemmas
 pub mod ShelfLemmas
 pub mod TargetLemmas
 pub mod TurnLemmas
+pub mod AlteringLemmas
+pub mod AgreeLemmas

@@ -14,7 +14,9 @@ pub use Rattle.kr_execve.specs as kr_execve
 pub use Rattle.kr_calm.specs as kr_calm
 pub use Rattle.kr_steps.specs as kr_steps
 pub use Rattle.kr_stops.specs as kr_stops
+pub use Rattle.law_steady.specs as law_steady
 pub mod Held
+pub mod Agreeing
 pub mod HeldLaws
 pub mod Shelving
 pub mod Target

@@ -38,6 +38,10 @@ pub record Machine (S : Type 0) : Type 0 where
   pub watcher : S
   pub tally : Tally
 
+-- the same with a part of what the watcher keeps
+abbrev pub with_part : {S Q : Type 0} → (S → Q) → Machine S → Machine Q
+with_part part m = record { state = m.state; watcher = part m.watcher; tally = m.tally }
+
 -- a process that dies of a signal
 abbrev pub killed : ℕ → ℕ → State ℕ Image → State ℕ Image
 killed pid signal s = applied images no_mounts pid (End signal) s

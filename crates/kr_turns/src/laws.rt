@@ -1,15 +1,21 @@
 //! Laws of turns, each carried by a function that does nothing.
-ghost use Rattle.kr_turns.specs.Laws.{TargetsAreTold, TurnsAreFunctions};
+ghost use Rattle.kr_turns.specs.Laws.{PlainCallsLeaveShape, TargetsAreTold, TurnsAreFunctions};
 ghost use Rattle.kr_stops.specs.Watching.{watching};
 
 use kr_stops::Stops;
 
-/// Where the relations of a watcher are graphs of functions, a turn is the definition's by these functions.
+/// Where the relations of a watcher are graphs of functions, a turn is the definition's by these functions. So it is where they are graphs on a
+/// part of what the watcher keeps.
 pub fn turns_are_functions<S: Stops>()
-    ensures { TurnsAreFunctions (watching S.enters S.exits S.bears S.forgets) }
+    ensures { TurnsAreFunctions (λ x. x) (watching S.enters S.exits S.bears S.forgets) }
 {}
 
 /// The target of a call that looks up one path, or has none, is a function of what it is told of that path and of what it knows.
 pub fn targets_are_told()
     ensures { TargetsAreTold }
+{}
+
+/// A call leaves the shape of the tree, and the user, where its caller's registers hold none that can alter the shape.
+pub fn plain_calls_leave_shape()
+    ensures { PlainCallsLeaveShape }
 {}

@@ -18,6 +18,9 @@
 //! first stop, and a call whose shelf isn't there breaks a rule. Where the relations are graphs of functions the turn is a function (law
 //! `turns_are_functions`).
 //!
+//! What a watcher keeps agrees with the tree before a turn and behind it (`agrees`): a call leaves the shape of the tree where its caller's registers
+//! hold none that can alter it (law `plain_calls_leave_shape`), and for each other the watcher was freed at the first stop.
+//!
 //! After want of memory nothing is promised. What a watcher reads of marked bytes at the second stop is judged with the next turn of that
 //! process.
 //!

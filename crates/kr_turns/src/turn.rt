@@ -4,7 +4,9 @@ ghost use Rattle.kr_steps.specs.law_allowed.Told.{SourcesAreNamed};
 ghost use Rattle.kr_steps.specs.Calls.{Runs};
 ghost use Rattle.kr_seen.specs.kr_model.State.{process};
 ghost use Rattle.kr_seen.specs.kr_ops.Meaning.{meaning};
+ghost use Rattle.kr_turns.specs.Agreeing.{AgreesIn};
 ghost use Rattle.kr_turns.specs.Making.{ComesOut, IsCallMade, IsLeft, IsTurnMade};
+ghost use Rattle.kr_stops.specs.Remembering.{AgreesAt, FreesCaller, StillAgrees};
 ghost use Rattle.kr_stops.specs.Watching.{watching};
 ghost use Rattle.kr_turns.specs.Held.{Stands, stopped_in};
 ghost use Rattle.kr_stops.specs.Stopped.{IsEdited, nothing_handed};
@@ -49,8 +51,10 @@ pub fn make_turn<P: Places, S: Stops, const M: u8>(
     requires runs { Runs P.number (P.mounts places.now) calls state.old }
     requires few { calls < 2 ^ 31 }
     requires lives { IsSome (process pid (meaning state.old)) }
+    requires agrees { AgreesIn S.agrees stops.old state.old }
     ensures turn { IfOk result (λ made. IsTurnMade (watching S.enters S.exits S.bears S.forgets) P.number (P.mounts places.now) fuel pid state.old stops.old state.new stops.new made) }
     ensures runs { OnOk result (Runs P.number (P.mounts places.now) (suc calls) state.new) }
+    ensures agrees { OnOk result (AgreesIn S.agrees stops.new state.new) }
 {
     lawful_states_are_sound::<P::Mount, M>();
     let (event, _done) = compute(state, pid, fuel)?;
@@ -86,8 +90,10 @@ fn make_call<P: Places, S: Stops, const M: u8>(
     requires runs { Runs P.number (P.mounts places.now) calls state.old }
     requires few { calls < 2 ^ 31 }
     requires lives { IsSome (process pid (meaning state.old)) }
+    requires agrees { AgreesIn S.agrees stops.old state.old }
     ensures call { IfOk result (λ made. IsCallMade (watching S.enters S.exits S.bears S.forgets) P.number (P.mounts places.now) pid state.old stops.old state.new stops.new made) }
     ensures runs { OnOk result (Runs P.number (P.mounts places.now) (suc calls) state.new) }
+    ensures agrees { OnOk result (AgreesIn S.agrees stops.new state.new) }
 {
     lawful_states_are_sound::<P::Mount, M>();
     let no_shelf = shelve(state, pid);
@@ -103,7 +109,8 @@ fn make_call<P: Places, S: Stops, const M: u8>(
 
 /// Tells the watcher of a child, if one was made.
 fn bear<S: Stops>(stops: &mut S, pid: u32, child: Option<u32>) -> Result<(), NoMemory>
-    ensures { OnOk result (IsBorn (watching S.enters S.exits S.bears S.forgets) pid child stops.old stops.new) }
+    ensures born { OnOk result (IsBorn (watching S.enters S.exits S.bears S.forgets) pid child stops.old stops.new) }
+    ensures agrees { OnOk result (StillAgrees S.agrees stops.old stops.new) }
 {
     match child {
         Some(child) => stops.born(pid, child),
@@ -122,9 +129,12 @@ fn enter<P: Places, S: Stops, const M: u8>(
 ) -> Result<(), NoMemory>
     requires runs { Runs P.number (P.mounts places.now) calls state.old }
     requires lives { IsSome (process pid (meaning state.old)) }
+    requires agrees { AgreesAt S.agrees stops.old (stopped_in P.number state.old pid nothing_handed) }
     ensures enters { OnOk result (S.enters stops.old (stopped_in P.number state.old pid nothing_handed) stops.new (stopped_in P.number state.new pid nothing_handed)) }
     ensures edits { IsEdited (stopped_in P.number state.old pid nothing_handed) (stopped_in P.number state.new pid nothing_handed) }
     ensures stands { Stands P.number (P.mounts places.now) calls pid state.new }
+    ensures agrees { OnOk result (AgreesAt S.agrees stops.new (stopped_in P.number state.new pid nothing_handed)) }
+    ensures frees { OnOk result (FreesCaller S.is_free (stopped_in P.number state.new pid nothing_handed) stops.new) }
 {
     let mut here = Here::new(alloc, places, state, pid, NOTHING_HANDED, calls);
     let entered = stops.entry(&mut here);
@@ -145,8 +155,10 @@ fn exit<P: Places, S: Stops, const M: u8>(
 ) -> Result<(), NoMemory>
     requires runs { Runs P.number (P.mounts places.now) calls state.old }
     requires lives { IsSome (process pid (meaning state.old)) }
+    requires agrees { AgreesAt S.agrees stops.old (stopped_in P.number state.old pid handed) }
     ensures exits { OnOk result (S.exits stops.old (stopped_in P.number state.old pid handed) stops.new (stopped_in P.number state.new pid handed)) }
     ensures stands { Stands P.number (P.mounts places.now) calls pid state.new }
+    ensures agrees { OnOk result (AgreesAt S.agrees stops.new (stopped_in P.number state.new pid handed)) }
 {
     let mut here = Here::new(alloc, places, state, pid, handed, calls);
     let exited = stops.exit(&mut here);
@@ -166,8 +178,10 @@ fn come_out<P: Places, S: Stops, const M: u8>(
     handed: Handed,
 ) -> Result<(), NoMemory>
     requires runs { Runs P.number (P.mounts places.now) calls state.old }
+    requires agrees { AgreesIn S.agrees stops.old state.old }
     ensures out { OnOk result (ComesOut (watching S.enters S.exits S.bears S.forgets) P.number pid handed state.old stops.old state.new stops.new) }
     ensures runs { OnOk result (Runs P.number (P.mounts places.now) calls state.new) }
+    ensures agrees { OnOk result (AgreesIn S.agrees stops.new state.new) }
 {
     match state.index_of(pid) {
         Some(_) => exit(alloc, places, stops, state, calls, pid, handed),
@@ -186,8 +200,10 @@ fn leave<P: Places, S: Stops, const M: u8>(
     plain: Plain,
 ) -> Result<Option<u8>, NoMemory>
     requires runs { Runs P.number (P.mounts places.now) calls state.old }
+    requires agrees { AgreesIn S.agrees stops.old state.old }
     ensures left { IfOk result (λ told. IsLeft (watching S.enters S.exits S.bears S.forgets) P.number pid plain state.old stops.old state.new stops.new told) }
     ensures runs { OnOk result (Runs P.number (P.mounts places.now) calls state.new) }
+    ensures agrees { OnOk result (AgreesIn S.agrees stops.new state.new) }
 {
     match plain.end {
         CallEnd::Answered => {

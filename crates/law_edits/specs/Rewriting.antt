@@ -3,7 +3,7 @@ use Rattle.std.specs.Prelude.{◌≡◌, ℕ, false, true, ◌≤◌, List, Some
 use Rattle.pt_args.specs.pt_canon.TextWalk.{TextSurroundings}
 use Rattle.pt_args.specs.kr_calls.PathTable.{PathUse, path_at}
 use Rattle.pt_args.specs.kr_calls.declared.request.Request.{Request}
-use Rattle.pt_args.specs.Edits.{edit_of}
+use Rattle.pt_args.specs.Edits.{edit_of, longest_path}
 use Rattle.pt_args.specs.Points.{both_are_busy, one_is_busy}
 use Rattle.pt_args.specs.Purposes.{opens, swap_for}
 use Rattle.pt_args.specs.Walks.{walked}
@@ -16,7 +16,7 @@ pub record IsReplaced (texts : TextSurroundings) (pid : ℕ) (r : Request) (k : 
   pub path : path_at r k ≡ Some u
   pub leads : walked texts pid (opens r) u ≡ Ok (Some reached)
   pub takes : swap_for texts.bindings reached.purpose reached.canon ≡ Ok text
-  pub short : length text ≤ 4095
+  pub short : length text ≤ longest_path
 
 abbrev pub new_text : PathUse → List ℕ → NewText
 new_text u text = record { register = u.register; text = text }

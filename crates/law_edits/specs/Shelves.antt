@@ -5,7 +5,7 @@ use Rattle.pt_tracer.specs.rv_mem.Pages.{Pages, allows}
 use Rattle.pt_tracer.specs.rv_mem.declared.regs.Regs.{Regs}
 use Rattle.pt_tracer.specs.rv_mem.declared.rights.Use.TheVariants.{Read}
 use Rattle.pt_args.specs.Laws.{IsPathText, poked}
-use Rattle.pt_args.specs.Shelving.{address_below, shelved, with_zero}
+use Rattle.pt_args.specs.Shelving.{address_below, shelf_size, shelved, with_zero}
 use Rattle.pt_args.specs.declared.edit.Edit.{Edit}
 use Rattle.pt_args.specs.declared.edit.Edit.TheVariants.{Swap}
 use Rattle.law_edits.specs.Requests.{NewText}
@@ -56,10 +56,10 @@ memory_behind sp first second w = with_pages w (poked w.pages (items_at sp (new_
 -- ---- where it can be done
 
 abbrev pub bottom_of : ℕ → ℕ
-bottom_of sp = sp - 65536
+bottom_of sp = sp - shelf_size
 
 -- the shelf below a stack pointer can be read, and on the other machine its bytes are marked
 pub record HasMarkedShelf (sp : ℕ) (m w : Pages) : Type 0 where
-  pub room : 65536 ≤ sp
+  pub room : shelf_size ≤ sp
   pub reads : (a : ℕ) → bottom_of sp ≤ a → a < sp → allows w a Read ≡ true
   pub marks : AreMarkedFrom (bottom_of sp) sp m

@@ -6,6 +6,8 @@ use Rattle.pt_tracer.specs.pr_base.WalkFrame.{Target}
 use Rattle.pt_tracer.specs.pr_base.declared.path.Last.TheVariants as last
 use Rattle.pt_tracer.specs.pr_base.declared.path.WalkMode.{WalkMode}
 use Rattle.pt_tracer.specs.pr_base.declared.path.WalkMode.TheVariants as modes
+use Rattle.kr_turns.specs.kr_calm.Rules.{longest_name}
+use Rattle.pt_args.specs.Edits.{longest_path}
 use Rattle.pt_args.specs.Purposes.{purpose_of, swap_for}
 use Rattle.pt_args.specs.pt_canon.Canon.{canon_of}
 use Rattle.pt_args.specs.pt_canon.declared.canon.Canon.{Canon}
@@ -36,4 +38,4 @@ ReachedTextsAreShort =
 abbrev pub SwapsAreShort : Type 0
 SwapsAreShort =
     (scene : Scene) (mode : WalkMode) (base : Place ℕ) (t : Text) (path : List ℕ) (a : PlaceTarget) (b : Target Text Text) (r : Reach) (opening : Bool) (canon : Canon) (text : List ℕ) → BothEnd scene mode base t path a b
-    → (reach_after scene.around mode (place_walk scene.around mode base path) r).longest ≤ 4000 → canon_of (texts_in scene) mode t path ≡ Ok canon → swap_for (texts_in scene).bindings (purpose_of opening mode) canon ≡ Ok text → length text ≤ 4095
+    → (reach_after scene.around mode (place_walk scene.around mode base path) r).longest ≤ longest_name → canon_of (texts_in scene) mode t path ≡ Ok canon → swap_for (texts_in scene).bindings (purpose_of opening mode) canon ≡ Ok text → length text ≤ longest_path

@@ -1,6 +1,7 @@
 -- What a tracer puts in place of the paths of a calm call is no longer than the plain kernel takes.
 use Rattle.std.specs.Prelude.{◌≡◌, ◌≤◌, ◌⊎◌, ℕ, List, length, Option, Some, None}
 use Rattle.law_edits.specs.pr_base.declared.errno.Errno.TheVariants.{ENAMETOOLONG}
+use Rattle.law_edits.specs.pt_args.Edits.{longest_path}
 use Rattle.law_edits.specs.pt_args.declared.edit.Edit.TheVariants.{Cancel}
 use Rattle.law_edits.specs.pt_bind.Tags.{TagTable}
 use Rattle.law_edits.specs.kr_calls.PathTable.{PathUse, path_at}
@@ -12,6 +13,7 @@ use Rattle.law_places.specs.kr_model.Reply.{refuse}
 use Rattle.law_places.specs.kr_model.Seen.{WalkFails}
 use Rattle.law_places.specs.kr_model.State.{Image, State, image_layout}
 use Rattle.law_places.specs.kr_model.Walks.{seen}
+use Rattle.law_places.specs.kr_calm.Rules.{longest_name}
 use Rattle.law_places.specs.kr_seen.CallWalks.{call_reach}
 use Rattle.law_edits.specs.kr_turns.Breaking.{nothing_reached}
 use Rattle.law_plans.specs.Plans.{Cancelling, IsEdit, IsPlanned, Passing, PlanAgrees, Swapping, shelved_texts}
@@ -20,7 +22,7 @@ use Rattle.law_edits.specs.Requests.{NewText}
 -- ---- texts
 
 abbrev pub IsShort : NewText → Type 0
-IsShort n = length n.text ≤ 4095
+IsShort n = length n.text ≤ longest_path
 
 abbrev pub IsShortIfAny : Option NewText → Type 0
 IsShortIfAny None = Unit {0}
@@ -29,7 +31,7 @@ IsShortIfAny (Some n) = IsShort n
 module _ (table : List Row) (tags : TagTable) (s w : State ℕ Image) (pid : ℕ) (r : Request) where
   -- a call of which no path leads to a host name of more than 4,000 bytes
   abbrev pub ReachesNoLongName : Type 0
-  ReachesNoLongName = (call_reach table pid s r nothing_reached).longest ≤ 4000
+  ReachesNoLongName = (call_reach table pid s r nothing_reached).longest ≤ longest_name
 
   -- the call is cancelled since a name is too long, and so a walk of the kernel with mounts fails
   pub record IsTooLong : Type 0 where

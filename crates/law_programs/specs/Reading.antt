@@ -5,6 +5,7 @@ use Rattle.pt_args.specs.rv_mem.Memory.{Memory}
 use Rattle.pt_args.specs.rv_mem.Pages.{IsPlaced, IsWhole, allows}
 use Rattle.pt_args.specs.rv_mem.declared.rights.Use.TheVariants.{Read}
 use Rattle.pt_args.specs.Laws.{IsPathText, poked}
+use Rattle.pt_args.specs.Shelving.{shelf_size}
 use Rattle.pt_args.specs.pt_canon.TextWalk.{TextSurroundings}
 use Rattle.law_edits.specs.pt_faker.Reading.{addresses_behind}
 use Rattle.law_edits.specs.pt_script.Expanding.{expanded_at}
@@ -26,8 +27,8 @@ pub record IsShelved (args env sp : ℕ) (here before behind : Memory) (lists : 
   pub addresses : (carried_out (addresses_behind args (length lists.args - 1)) before).reply ≡ Ok kept
   pub whole : IsWhole before.pages
   pub first_placed : IsPlaced before.pages
-  pub high : 65536 ≤ sp
-  pub may : (a : ℕ) → sp - 65536 ≤ a → a < sp → allows before.pages a Read ≡ true
+  pub high : shelf_size ≤ sp
+  pub may : (a : ℕ) → sp - shelf_size ≤ a → a < sp → allows before.pages a Read ≡ true
   pub shelf : behind.pages ≡ poked before.pages (script_shelf sp e.host (put_texts (length lists.args - 1) e.args) kept).items
 
 abbrev pub ScriptListsAreRead : Type 0

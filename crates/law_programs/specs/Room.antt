@@ -4,7 +4,9 @@ use Rattle.std.specs.List.{All}
 use Rattle.pt_args.specs.rv_mem.Actions.{carried_out}
 use Rattle.pt_args.specs.kr_calls.Expansion.{is_too_big}
 use Rattle.pt_args.specs.pt_canon.TextWalk.{TextSurroundings}
+use Rattle.pt_args.specs.Edits.{longest_path}
 use Rattle.pt_args.specs.Laws.{IsPathText}
+use Rattle.pt_args.specs.Shelving.{shelf_size}
 use Rattle.law_edits.specs.pt_faker.Reading.{addresses_behind}
 use Rattle.law_edits.specs.pt_script.Expanding.{expanded_at}
 use Rattle.law_edits.specs.pt_script.declared.expansion.Expanded.{Expanded}
@@ -16,8 +18,8 @@ use Rattle.law_edits.specs.pt_tracer.ScriptEdit.{put_texts, script_room, shelved
 abbrev pub ScriptsHaveRoom : Type 0
 ScriptsHaveRoom =
     (texts : TextSurroundings) (pid env_bytes : ℕ) (path : List ℕ) (args : List (List ℕ)) (e : Expanded) (addresses : List ℕ)
-    → IsPathText path → length e.host ≤ 4095 → expanded_at texts pid env_bytes path args ≡ Ok e → e.scripts ≢ 0 → length addresses ≡ 8 * (length args - 1)
-    → script_room e.host (put_texts (length args - 1) e.args) addresses < 65536
+    → IsPathText path → length e.host ≤ longest_path → expanded_at texts pid env_bytes path args ≡ Ok e → e.scripts ≢ 0 → length addresses ≡ 8 * (length args - 1)
+    → script_room e.host (put_texts (length args - 1) e.args) addresses < shelf_size
 
 -- behind the texts that were put there stand the arguments but the first
 abbrev pub ScriptTextsArePathTexts : Type 0
@@ -35,7 +37,7 @@ ScriptsKeepTheLimits =
 abbrev pub ScriptsAreShelved : Type 0
 ScriptsAreShelved =
     (texts : TextSurroundings) (pid env_bytes at : ℕ) (path : List ℕ) (args : List (List ℕ)) (e : Expanded) (t : Stopped) (addresses : List ℕ)
-    → IsPathText path → length e.host ≤ 4095 → expanded_at texts pid env_bytes path args ≡ Ok e → e.scripts ≢ 0
+    → IsPathText path → length e.host ≤ longest_path → expanded_at texts pid env_bytes path args ≡ Ok e → e.scripts ≢ 0
     → (carried_out (addresses_behind at (length args - 1)) (memory_at t)).reply ≡ Ok addresses
     → script_plan t at (length args - 1) e
     ≡ (

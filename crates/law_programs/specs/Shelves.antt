@@ -1,11 +1,12 @@
 -- The shelf of a script, once it is written.
 use Rattle.std.specs.Prelude.{◌≡◌, ℕ, ◌+◌, ◌-◌, ◌*◌, ◌<◌, ◌≤◌, true, List, [], ◌∷◌, ◌++◌, length, Ok}
 use Rattle.std.specs.List.{All}
+use Rattle.kr_first.specs.pr_base.Paths.{text_limit}
 use Rattle.pt_args.specs.rv_mem.Memory.{text_of}
 use Rattle.pt_args.specs.rv_mem.Pages.{IsPlaced, IsWhole, Pages, allows, bytes_from}
 use Rattle.pt_args.specs.rv_mem.declared.rights.Use.TheVariants.{Read}
 use Rattle.pt_args.specs.Laws.{IsPathText, poked}
-use Rattle.pt_args.specs.Shelving.{with_item, with_zero}
+use Rattle.pt_args.specs.Shelving.{shelf_size, with_item, with_zero}
 use Rattle.pt_args.specs.declared.edit.Edit.TheVariants.{Swap}
 use Rattle.pt_args.specs.declared.shelf.Shelf.{Shelf}
 use Rattle.law_edits.specs.pt_tracer.ScriptEdit.{empty_shelf, list_item, script_room, shelved_script, with_texts}
@@ -23,13 +24,13 @@ script_shelf sp host texts kept = with_item (with_texts (host_shelf sp host) tex
 pub record StandsOnShelf (w : Pages) (sp : ℕ) (host : List ℕ) (texts rest : List (List ℕ)) (kept : List ℕ) : Type 0 where
   pub edit : shelved_script sp host texts kept ≡ Swap ((10, (host_shelf sp host).top) ∷ (11, (script_shelf sp host texts kept).top) ∷ []) (script_shelf sp host texts kept).items
   pub low : sp ≤ (script_shelf sp host texts kept).top + script_room host texts kept
-  pub path : text_of w (host_shelf sp host).top 4096 ≡ Ok host
+  pub path : text_of w (host_shelf sp host).top text_limit ≡ Ok host
   pub list : IsList w (script_shelf sp host texts kept).top (texts ++ rest)
 
 -- where the kept addresses are those of a list that still stands
 abbrev pub ShelvedScriptsStand : Type 0
 ShelvedScriptsStand =
-    (m : Pages) (sp from : ℕ) (host : List ℕ) (texts rest : List (List ℕ)) (kept : List ℕ) → IsWhole m → IsPlaced m → 65536 ≤ sp → ((a : ℕ) → sp - 65536 ≤ a → a < sp → allows m a Read ≡ true)
-    → script_room host texts kept ≤ 65536 → IsPathText host → All IsPathText texts
+    (m : Pages) (sp from : ℕ) (host : List ℕ) (texts rest : List (List ℕ)) (kept : List ℕ) → IsWhole m → IsPlaced m → shelf_size ≤ sp → ((a : ℕ) → sp - shelf_size ≤ a → a < sp → allows m a Read ≡ true)
+    → script_room host texts kept ≤ shelf_size → IsPathText host → All IsPathText texts
     → AreEntries (poked m (script_shelf sp host texts kept).items) from rest → bytes_from (poked m (script_shelf sp host texts kept).items) from (8 * length rest) ≡ kept
     → StandsOnShelf (poked m (script_shelf sp host texts kept).items) sp host texts rest kept

@@ -1,6 +1,6 @@
 -- What the plain kernel makes of what it is handed: the working directory and the program of the kernel with mounts, on the host alone.
 use Rattle.std.specs.Prelude.{◌≡◌, ◌<◌, ℕ, true, false, List, Some, Result, Ok, Err}
-use Rattle.pr_start.specs.pr_base.Paths.{text_of}
+use Rattle.pr_start.specs.pr_base.Paths.{text_limit, text_of}
 use Rattle.pr_start.specs.pr_base.Texts.{Text}
 use Rattle.pr_start.specs.pr_base.declared.errno.Errno.{Errno}
 use Rattle.pr_start.specs.pt_script.declared.program.Program.{Program}
@@ -45,6 +45,6 @@ DirectoriesAreHandedOver =
 -- by the host text of a program that is no script it plans to run that, from wherever it is
 abbrev pub ProgramsAreHandedOver : Type 0
 ProgramsAreHandedOver =
-    (table : List Row) (tree : Tree) (user : User) (most : ℕ) (target : Target ℕ) (program : Program) (args env : List (List ℕ)) (other : Place ℕ) → IsSettled (first_space table tree user) → most < 4096
+    (table : List Row) (tree : Tree) (user : User) (most : ℕ) (target : Target ℕ) (program : Program) (args env : List (List ℕ)) (other : Place ℕ) → IsSettled (first_space table tree user) → most < text_limit
     → IsSameProgram table tree user most target program → is_script program.head ≡ false → are_too_big args env ≡ false
     → plan_of plain tree user other program.host args env ≡ planned_on_host (target_plan table tree env target args)

@@ -1,5 +1,6 @@
 -- The program that runs in the end, with its arguments, behind the tests of execve(2) in their order: on both machines the same one.
 use Rattle.std.specs.Prelude.{◌≡◌, ◌≢◌, ◌≤◌, ◌<◌, ℕ, false, List, [], Result, Err, if◌then◌else◌}
+use Rattle.pr_start.specs.pr_base.Paths.{text_limit}
 use Rattle.pr_start.specs.pr_base.declared.errno.Errno.{Errno}
 use Rattle.pr_start.specs.pr_base.declared.errno.Errno.TheVariants.{E2BIG}
 use Rattle.pr_start.specs.pt_bind.Tags.{TagTable}
@@ -49,5 +50,5 @@ module _ (table : List Row) (tree : Tree) (user : User) where
 abbrev pub RunsAgree : Type 0
 RunsAgree =
     (table : List Row) (tree : Tree) (user : User) (tags : TagTable) (base : Place ℕ) (working path : List ℕ) (args env : List (List ℕ)) (most : ℕ) (r : Reach) → IsSettled (first_space table tree user) → StandsAt table tree user base working
-    → most < 4096 → args ≢ [] → (plan_reach table tree user base path args env r).longest ≤ most
+    → most < text_limit → args ≢ [] → (plan_reach table tree user base path args env r).longest ≤ most
     → ResultsAlike (IsSameRun table tree user most env) (run_of table tree user base path args env) (run_from (first_texts table tree user tags) working args env path)

@@ -323,7 +323,7 @@ module _ (t : Tree) (kept : IsKept t) where
 
 -- ---- numbers of a node
 
-tells_shape : Tells without_bytes
+pub tells_shape : Tells without_bytes
 tells_shape n k same = sym (blind_entries n.body) ∙ ap (λ (n : Node). entries_of n.body) same ∙ blind_entries k.body
 
 -- numbers that are set, with a test that tells whether they were those before

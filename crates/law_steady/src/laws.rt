@@ -1,5 +1,5 @@
 //! Laws of steady walks, each carried by a function that does nothing.
-ghost use Rattle.law_steady.specs.Along.{ShapeIsToldAlong};
+ghost use Rattle.law_steady.specs.Along.{ShapeIsToldAlong, ShapeStaysAlong};
 ghost use Rattle.law_steady.specs.Bytes.{BytesAreTold, BytesAreToldAlong};
 ghost use Rattle.law_steady.specs.Calls.{CallsAlterOnce, CallsLeaveBytes, CallsLeaveShape, ProgramsLeaveBoth};
 ghost use Rattle.law_steady.specs.Exact.{LessIsTold, NamesAreTexts, ShapeIsTold};
@@ -53,6 +53,11 @@ pub fn less_is_told()
 /// count whether it is altered.
 pub fn shape_is_told_along<M>()
     ensures { ShapeIsToldAlong M }
+{}
+
+/// Changes none of which can alter the shape of the tree leave it, one behind the other, and the user too.
+pub fn shape_stays_along<M>()
+    ensures { ShapeStaysAlong M }
 {}
 
 /// No change of a call other than openat(2) with O_CREAT, the calls that make, remove and move names, and those that set modes and owners can

@@ -29,7 +29,8 @@
 //! only a write, a cut and openat with O_TRUNC such as can alter bytes (`calls_leave_shape`, `calls_leave_bytes`); an execve's new program alters
 //! neither (`programs_leave_both`). A call makes at most one of either (`calls_alter_once`). Hence both ways of all changes of a call, one behind the
 //! other, each told of the tree before it: whether they alter the shape and whether they alter bytes, and that counting those that do counts the
-//! calls that do (`shape_is_told_along`, `bytes_are_told_along`; of calls `calls_are_told`, and `programs_are_told`).
+//! calls that do (`shape_is_told_along`, `bytes_are_told_along`; of calls `calls_are_told`, and `programs_are_told`). Changes none of which can alter
+//! the shape leave it, and the user, whatever else is known of the state (`shape_stays_along`).
 //!
 //! The reads of the first bytes for scripts, and names of descriptors, are no part of a key.
 #![tactic(auto)]

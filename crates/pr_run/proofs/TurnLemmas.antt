@@ -3,7 +3,7 @@ use Rattle.std.proofs.Common.{◌≡◌, inr, ℕ, Bool, List, [], ◌∷◌, Op
 use Rattle.std.specs.List.{filter}
 use Rattle.pr_sources.specs.kr_model.State.{Image, Process}
 use Rattle.kr_core.specs.kr_turns.Steps.{goes_on, picked_process}
-use Rattle.kr_core.specs.Kernel.{Clears, Kernel, machine}
+use Rattle.kr_core.specs.Kernel.{Clears, Kernel, machine_by}
 use Rattle.kr_core.specs.kr_turns.Run.{Deadlock, Ending, Over, Put, after_put, ending_of, if_any}
 use Rattle.kr_core.specs.kr_turns.Turn.{Machine}
 use Rattle.pr_io.specs.Drawn.{Received}
@@ -25,8 +25,8 @@ pub goes : {S : Type 0} (m : Machine S) (pick : ℕ) (p : Process ℕ Image) →
 goes m pick p e = any-passing (goes_on m.state) m.state.living _ p e
 
 -- a kernel whose bytes were forgotten
-pub forgotten : {P S T : Type 0} {M : ℕ} (number : T → ℕ) (old new : Kernel P S T M) → Clears number old new → machine number new ≡ after_put (machine number old)
-forgotten number old new c = λ i. record { state = c.state i; watcher = c.stops i; tally = record { status = c.status i; broken = c.broken i } }
+pub forgotten : {P S Q T : Type 0} {M : ℕ} (number : T → ℕ) (part : S → Q) (old new : Kernel P S T M) → Clears number old new → machine_by number part new ≡ after_put (machine_by number part old)
+forgotten number part old new c = λ i. record { state = c.state i; watcher = part (c.stops i); tally = record { status = c.status i; broken = c.broken i } }
 
 -- a turn that can be made, and stops
 pub stops-made : {S : Type 0} (m : Machine S) (put own : Put) (out err : Received) → own ≡ put → ending_of m ≡ None → (s : Stop) → StopsTurn own out err s → StopsMaking m put out err s

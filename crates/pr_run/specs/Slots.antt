@@ -2,7 +2,7 @@
 use Rattle.std.specs.Prelude.{ℕ, ◌≡◌, ◌≤◌, ◌<◌, ◌^◌, true, List, [], ◌∷◌, map}
 use Rattle.std.specs.List.{All}
 use Rattle.kr_view.specs.View.{Row}
-use Rattle.kr_core.specs.Kernel.{Kernel, machine}
+use Rattle.kr_core.specs.Kernel.{Kernel, machine_by}
 use Rattle.kr_core.specs.kr_turns.Run.{Ran, Slot, cycle, run}
 use Rattle.kr_core.specs.kr_stops.Watching.{Watcher}
 use Rattle.pr_words.specs.declared.options.Slot.{Slot as SlotOfWords}
@@ -25,7 +25,7 @@ pub record HasNoTurn {P S T : Type 0} {M : ℕ} (k : Kernel P S T M) : Type 0 wh
   pub whole : k.whole ≡ true
   pub first : k.turns ≡ 0
 
--- that of a kernel by its plan
-module _ {P S T : Type 0} {M : ℕ} (does : Watcher S) (mounts : P → List Row) (number : T → ℕ) where
-  abbrev pub run_of : Plan → Kernel P S T M → Ran S
-  run_of plan k = run does M (mounts k.places) (slot_of plan.schedule) plan.turns (machine number k)
+-- that of a kernel by its plan, of the part of what its watcher keeps on which the watcher's functions act
+module _ {P S Q T : Type 0} {M : ℕ} (part : S → Q) (does : Watcher Q) (mounts : P → List Row) (number : T → ℕ) where
+  abbrev pub run_of : Plan → Kernel P S T M → Ran Q
+  run_of plan k = run does M (mounts k.places) (slot_of plan.schedule) plan.turns (machine_by number part k)

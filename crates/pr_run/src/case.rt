@@ -141,7 +141,7 @@ fn run_case<P: Places, S: Graphed, Q: Places, T: Graphed, const M: u8, const N: 
     requires watched { HasNoTurn watched.old }
     requires mounted { HasNoTurn mounted.old }
     requires plan { IsPlan plan.now }
-    ensures { IfOk result (λ told. report_told told ≡ case_report_of case plan.now.user (run_of S.does P.mounts P.number plan.now watched.old) (run_of T.does Q.mounts Q.number plan.now mounted.old)) }
+    ensures { IfOk result (λ told. report_told told ≡ case_report_of case plan.now.user (run_of S.part S.does P.mounts P.number plan.now watched.old) (run_of T.part T.does Q.mounts Q.number plan.now mounted.old)) }
 {
     let kept = keep(alloc, watched, plan)?;
     let other = keep(alloc, mounted, plan)?;
@@ -198,7 +198,7 @@ pub fn case_report<
     requires watched { HasNoTurn watched.old }
     requires mounted { HasNoTurn mounted.old }
     requires plan { IsPlan plan.now }
-    ensures { AnswersCase (case_report_of case plan.now.user (run_of S.does P.mounts P.number plan.now watched.old) (run_of T.does Q.mounts Q.number plan.now mounted.old))
+    ensures { AnswersCase (case_report_of case plan.now.user (run_of S.part S.does P.mounts P.number plan.now watched.old) (run_of T.part T.does Q.mounts Q.number plan.now mounted.old))
         (received O.Sink out.old out.new) (received L.Sink left.old left.new) result }
 {
     let Ok(told) = run_case(alloc, case, watched, mounted, plan) else {

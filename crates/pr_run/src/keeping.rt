@@ -1,6 +1,6 @@
 //! A run whose bytes are kept, turn after turn, so that it can be compared with another.
 ghost use Rattle.std.specs.Prelude.{◌≡◌, ◌≤◌, ◌<◌, ◌^◌, ◌↔◌, [], true, length, IfOk, OnOk, IsTrue};
-ghost use Rattle.kr_core.specs.Kernel.{Clears, machine};
+ghost use Rattle.kr_core.specs.Kernel.{Clears, machine, machine_by};
 ghost use Rattle.kr_core.specs.kr_turns.Run.{put_by};
 ghost use Rattle.pr_run.specs.Case.{outcome};
 ghost use Rattle.pr_run.specs.Keeping.{KeepsTurn, kept_told, put_told, puts_told};
@@ -8,9 +8,9 @@ ghost use Rattle.pr_run.specs.Puts.{GoesOn, end_told};
 ghost use Rattle.pr_run.specs.Report.{outs};
 ghost use Rattle.pr_run.specs.Slots.{HasNoTurn, IsPlan, run_of};
 
+use crate::laws::parts_turn;
 use crate::plan::Plan;
 use crate::turns::{End, end_after};
-use kr_core::below::turns_are_functions;
 use kr_core::{Kernel, Turned};
 use kr_tree::Tree;
 use kr_view::Places;
@@ -58,10 +58,10 @@ fn keep_turn<P: Places, S: Graphed, const M: u8>(
     requires whole { kernel.old.whole ≡ true }
     requires fuel { 1 ≤ slot.fuel }
     requires few { kernel.old.turns < 2 ^ 31 }
-    ensures keeps { IfOk result (KeepsTurn S.does M (P.mounts kernel.old.places) slot (machine P.number kernel.old) (machine P.number kernel.new) (puts_told puts.old.items) (puts_told puts.new.items)) }
+    ensures keeps { IfOk result (KeepsTurn S.does M (P.mounts kernel.old.places) slot (machine_by P.number S.part kernel.old) (machine_by P.number S.part kernel.new) (puts_told puts.old.items) (puts_told puts.new.items)) }
     ensures goes_on { IfOk result (λ turned. GoesOn turned kernel.old kernel.new) }
 {
-    turns_are_functions::<S>();
+    parts_turn::<S>();
     S::is_graph();
     match kernel.turn(slot.pick, slot.fuel) {
         Ok(Turned::Ran) => {}
@@ -84,9 +84,9 @@ fn keep_turns<P: Places, S: Graphed, const M: u8>(
     requires kernel { HasNoTurn kernel.old }
     requires plan { IsPlan plan.now }
     requires empty { puts.old.items ≡ [] }
-    ensures end { IfOk result (λ end. (run_of S.does P.mounts P.number plan.now kernel.old).ending ≡ end_told end) }
-    ensures puts { OnOk result ((run_of S.does P.mounts P.number plan.now kernel.old).puts ≡ puts_told puts.new.items) }
-    ensures machine { OnOk result ((run_of S.does P.mounts P.number plan.now kernel.old).machine ≡ machine P.number kernel.new) }
+    ensures end { IfOk result (λ end. (run_of S.part S.does P.mounts P.number plan.now kernel.old).ending ≡ end_told end) }
+    ensures puts { OnOk result ((run_of S.part S.does P.mounts P.number plan.now kernel.old).puts ≡ puts_told puts.new.items) }
+    ensures machine { OnOk result ((run_of S.part S.does P.mounts P.number plan.now kernel.old).machine ≡ machine_by P.number S.part kernel.new) }
 {
     for turn in 0..plan.turns {
         let slot = plan.slot(turn);
@@ -107,8 +107,8 @@ pub fn keep<P: Places, S: Graphed, const M: u8>(
 ) -> Result<Kept, NoMemory>
     requires kernel { HasNoTurn kernel.old }
     requires plan { IsPlan plan.now }
-    ensures kept { IfOk result (λ kept. kept_told kept (machine P.number kernel.new).state.tree ≡ outcome (run_of S.does P.mounts P.number plan.now kernel.old)) }
-    ensures machine { OnOk result ((run_of S.does P.mounts P.number plan.now kernel.old).machine ≡ machine P.number kernel.new) }
+    ensures kept { IfOk result (λ kept. kept_told kept (machine P.number kernel.new).state.tree ≡ outcome (run_of S.part S.does P.mounts P.number plan.now kernel.old)) }
+    ensures machine { OnOk result ((run_of S.part S.does P.mounts P.number plan.now kernel.old).machine ≡ machine_by P.number S.part kernel.new) }
 {
     let mut puts = Vec::new(alloc);
     let end = keep_turns(alloc, kernel, plan, &mut puts)?;

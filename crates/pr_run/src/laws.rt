@@ -1,5 +1,14 @@
-//! Laws of outcomes, each carried by a function that does nothing.
+//! Laws of turns and outcomes, each carried by a function that does nothing.
+ghost use Rattle.kr_core.specs.kr_stops.Watching.{watching};
+ghost use Rattle.kr_core.specs.kr_turns.Laws.{TurnsAreFunctions};
 ghost use Rattle.pr_run.specs.Laws.{OutcomesAreToldApart};
+
+use pt_tracer::Graphed;
+
+/// Where the stops of a watcher are functions of a part of what it keeps, turns with it are functions of that part.
+pub(crate) fn parts_turn<S: Graphed>()
+    ensures { TurnsAreFunctions S.part (watching S.enters S.exits S.bears S.forgets) }
+{}
 
 /// The test by which a case is told is true exactly where both outcomes are equal.
 pub fn outcomes_are_told_apart()

@@ -2,7 +2,8 @@
 //!
 //! What is proved, with the clause or the law that carries it:
 //!
-//! The turns of a kernel, and what is put of them. It holds over any view, and with each watcher whose stops are functions (`Graphed`).
+//! The turns of a kernel, and what is put of them. It holds over any view, and with each watcher whose stops are functions of a
+//! part of what it keeps (`Graphed`): of that part the run speaks, and what is remembered beside it shows nowhere.
 //!
 //! `report` answers the report of the definition's run, and puts it (`AnswersReport`; `run`, `report_of`): the bytes of each turn, the line on
 //! calm where it is asked for, the canonical listing of the tree that is left. Where a sink fails, its count rose and it was handed bytes, and

@@ -93,7 +93,7 @@ fn put_report<P: Places, S: Graphed, O: Sink, R: Sink, L: Sink, const M: u8>(
 ) -> Result<Answer, Stop>
     requires kernel { HasNoTurn kernel.old }
     requires plan { IsPlan plan.now }
-    ensures { PutsReport (report_of plan.now (run_of S.does P.mounts P.number plan.now kernel.old)) (received O.Sink out.old out.new) (received R.Sink err.old err.new) (received L.Sink left.old left.new) result }
+    ensures { PutsReport (report_of plan.now (run_of S.part S.does P.mounts P.number plan.now kernel.old)) (received O.Sink out.old out.new) (received R.Sink err.old err.new) (received L.Sink left.old left.new) result }
 {
     let end = run_turns(kernel, plan, out, err)?;
     put_calm(alloc, plan.calm, kernel.broken(), err)?;
@@ -113,7 +113,7 @@ pub fn report<P: Places, S: Graphed, O: Sink, R: Sink, L: Sink, const M: u8>(
 ) -> Answer
     requires kernel { HasNoTurn kernel.old }
     requires plan { IsPlan plan.now }
-    ensures { AnswersReport (report_of plan.now (run_of S.does P.mounts P.number plan.now kernel.old)) (received O.Sink out.old out.new) (received R.Sink err.old err.new) (received L.Sink left.old left.new) result }
+    ensures { AnswersReport (report_of plan.now (run_of S.part S.does P.mounts P.number plan.now kernel.old)) (received O.Sink out.old out.new) (received R.Sink err.old err.new) (received L.Sink left.old left.new) result }
 {
     match put_report(alloc, kernel, plan, out, err, left) {
         Ok(answer) => answer,

@@ -3,14 +3,14 @@ ghost use Rattle.std.specs.Prelude.{◌≡◌, ◌≢◌, ◌<◌, ◌≤◌, �
 ghost use Rattle.pr_io.specs.Drawn.{received};
 ghost use Rattle.pr_io.specs.Faults.{Rose};
 ghost use Rattle.pr_io.specs.Moves.{Puts};
-ghost use Rattle.kr_core.specs.Kernel.{Clears, machine};
+ghost use Rattle.kr_core.specs.Kernel.{Clears, machine, machine_by};
 ghost use Rattle.kr_core.specs.kr_turns.Run.{put_by};
 ghost use Rattle.pr_run.specs.Puts.{GoesOn, MakesTurn, PutsRun, PutsTurn, end_told};
 ghost use Rattle.pr_run.specs.Report.{last_ending};
 ghost use Rattle.pr_run.specs.Slots.{HasNoTurn, IsPlan, run_of};
 
+use crate::laws::parts_turn;
 use crate::plan::Plan;
-use kr_core::below::turns_are_functions;
 use kr_core::{Kernel, Turned};
 use kr_view::Places;
 use pr_io::{PutFault, Sink};
@@ -102,12 +102,12 @@ fn make_turn<P: Places, S: Graphed, O: Sink, R: Sink, const M: u8>(
     requires whole { kernel.old.whole ≡ true }
     requires fuel { 1 ≤ slot.fuel }
     requires few { kernel.old.turns < 2 ^ 31 }
-    ensures makes { MakesTurn S.does M (P.mounts kernel.old.places) slot (machine P.number kernel.old) (machine P.number kernel.new) (received O.Sink out.old out.new) (received R.Sink err.old err.new) result }
+    ensures makes { MakesTurn S.does M (P.mounts kernel.old.places) slot (machine_by P.number S.part kernel.old) (machine_by P.number S.part kernel.new) (received O.Sink out.old out.new) (received R.Sink err.old err.new) result }
     ensures goes_on { IfOk result (λ turned. GoesOn turned kernel.old kernel.new) }
     ensures out_count { O.faults out.old ≤ O.faults out.new }
     ensures err_count { R.faults err.old ≤ R.faults err.new }
 {
-    turns_are_functions::<S>();
+    parts_turn::<S>();
     S::is_graph();
     match kernel.turn(slot.pick, slot.fuel) {
         Ok(Turned::Ran) => {}
@@ -142,8 +142,8 @@ pub(crate) fn run_turns<P: Places, S: Graphed, O: Sink, R: Sink, const M: u8>(
 ) -> Result<End, Stop>
     requires kernel { HasNoTurn kernel.old }
     requires plan { IsPlan plan.now }
-    ensures puts { PutsRun (run_of S.does P.mounts P.number plan.now kernel.old) (received O.Sink out.old out.new) (received R.Sink err.old err.new) result }
-    ensures machine { OnOk result ((run_of S.does P.mounts P.number plan.now kernel.old).machine ≡ machine P.number kernel.new) }
+    ensures puts { PutsRun (run_of S.part S.does P.mounts P.number plan.now kernel.old) (received O.Sink out.old out.new) (received R.Sink err.old err.new) result }
+    ensures machine { OnOk result ((run_of S.part S.does P.mounts P.number plan.now kernel.old).machine ≡ machine_by P.number S.part kernel.new) }
     ensures out_count { O.faults out.old ≤ O.faults out.new }
     ensures err_count { R.faults err.old ≤ R.faults err.new }
 {

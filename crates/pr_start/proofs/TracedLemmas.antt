@@ -7,23 +7,22 @@ use Rattle.kr_tree.specs.kr_inode.declared.user.User.{User}
 use Rattle.kr_tree.specs.Tree.{Tree}
 use Rattle.kr_view.specs.declared.target.Reach.{Reach}
 use Rattle.kr_view.specs.declared.view.Plain.{Plain}
-use Rattle.kr_view.specs.declared.view.HostMount.{HostMount}
 use Rattle.kr_start.specs.kr_model.State.{Image, State}
 use Rattle.kr_start.specs.kr_model.Walks.{and_then}
 use Rattle.kr_core.specs.kr_first.declared.starting.StartFault.{StartFault}
 use Rattle.kr_core.specs.kr_first.declared.starting.StartFault.TheVariants as fault
 use Rattle.kr_core.specs.Runs.{Machine}
-use Rattle.kr_core.specs.Kernel.{Kernel, Starts, machine}
+use Rattle.kr_core.specs.Kernel.{Starts}
 use Rattle.pt_tracer.specs.Watched.{Tracing}
 use Rattle.pt_tracer.specs.declared.tracer.Tracer.{Tracer}
-use Rattle.pr_start.specs.TracedBeginning.{BeginsTraced, fresh, host_number}
+use Rattle.pr_start.specs.TracedBeginning.{BeginsTraced, TracedKernel, fresh, host_number, traced_machine}
 
-pub begins-from : (places : Plain) (tracer : Tracer) (reach : Reach) (answer : Result (State ℕ Image) Errno) (result : Result (Kernel Plain Tracer HostMount 0) StartFault)
+pub begins-from : (places : Plain) (tracer : Tracer) (reach : Reach) (answer : Result (State ℕ Image) Errno) (result : Result TracedKernel StartFault)
     → Starts {M = 0} host_number places tracer reach answer result → BeginsTraced (and_then answer (λ s. Ok (fresh tracer s))) result
 begins-from places tracer reach answer (Ok k) starts =
     let b = starts.1 in
-    let same : fresh tracer (machine host_number k).state ≡ machine host_number k = λ i. record {
-      state = (machine host_number k).state;
+    let same : fresh tracer (traced_machine k).state ≡ traced_machine k = λ i. record {
+      state = (traced_machine k).state;
       watcher = sym b.stops_are i;
       tally = record { status = sym b.status i; broken = sym b.broken i };
     } in

@@ -16,7 +16,7 @@ use Rattle.kr_core.specs.kr_first.declared.starting.StartFault.{StartFault}
 use Rattle.kr_core.specs.kr_first.declared.starting.StartFault.TheVariants as fault
 use Rattle.kr_core.specs.Runs.{Machine}
 use Rattle.kr_core.specs.Kernel as kernel
-use Rattle.kr_core.specs.Kernel.{machine}
+use Rattle.kr_core.specs.Kernel.{machine_by}
 use Rattle.pt_canon.specs.TextWalk.{TextSurroundings}
 use Rattle.pt_first.specs.FirstPeeks.{first_peeked}
 use Rattle.pt_first.specs.GuestStart.{guest_start, tagged}
@@ -48,8 +48,15 @@ module _ (bindings : List MountText) (tree : Tree) (user : User) (ids : Option (
   abbrev pub traced_beginning : Launch → List ℕ → Result (Machine Tracing) Errno
   traced_beginning launch input = and_then (guest_start (texts_before bindings tree user) launch) (begun_as input)
 
+-- a plain kernel with its tracer, and its machine with the part of what the tracer keeps of which the definition speaks
+abbrev pub TracedKernel : Type 0
+TracedKernel = kernel.Kernel Plain Tracing HostMount 0
+
+abbrev pub traced_machine : TracedKernel → Machine Tracing
+traced_machine k = machine_by host_number (λ tracing. tracing) k
+
 -- a kernel begins as the definition says, before its first turn, or its error is answered, but for want of memory
-abbrev pub BeginsTraced : Result (Machine Tracing) Errno → Result (kernel.Kernel Plain Tracing HostMount 0) StartFault → Type 0
-BeginsTraced answer (Ok k) = (answer ≡ Ok (machine host_number k)) × (k.turns ≡ 0) × (k.whole ≡ true)
+abbrev pub BeginsTraced : Result (Machine Tracing) Errno → Result TracedKernel StartFault → Type 0
+BeginsTraced answer (Ok k) = (answer ≡ Ok (traced_machine k)) × (k.turns ≡ 0) × (k.whole ≡ true)
 BeginsTraced answer (Err (fault.Err e)) = answer ≡ Err e
 BeginsTraced answer (Err fault.NoMemory) = Unit {0}

@@ -4,8 +4,6 @@ use Rattle.std.specs.Prelude.{◌≡◌, ◌⊎◌, ℕ, Bool, true, false, List
 use Rattle.pr_base.specs.declared.errno.Errno.{Errno}
 use Rattle.kr_tree.specs.Tree.{Tree}
 use Rattle.kr_view.specs.View.{Row, plain}
-use Rattle.kr_view.specs.declared.view.Plain.{Plain}
-use Rattle.kr_view.specs.declared.view.HostMount.{HostMount}
 use Rattle.pr_start.specs.kr_core.Kernel as kernel
 use Rattle.kr_mounts.specs.declared.mount.Mount.{Mount}
 use Rattle.kr_mounts.specs.declared.mounted.MountNumber.{MountNumber}
@@ -24,7 +22,7 @@ use Rattle.pr_sources.specs.Reading.{IsRead, listed, read_asked}
 use Rattle.pr_sources.specs.declared.reading.Asked.{Asked}
 use Rattle.pr_start.specs.Beginning.{beginning, told_with}
 use Rattle.pr_start.specs.Machines.{Faked, Machine, Nobody, Ran, Watch, machine, run, starting_faking, watch}
-use Rattle.pr_start.specs.TracedBeginning.{Tracing, host_number, traced_beginning, tracer}
+use Rattle.pr_start.specs.TracedBeginning.{TracedKernel, Tracing, traced_beginning, traced_machine, tracer}
 use Rattle.pr_start.specs.Numbers.{number_of}
 use Rattle.pr_words.specs.declared.launch.Launch.{Launch}
 use Rattle.pr_gen.specs.Case.{case_binds, case_command, case_root}
@@ -177,14 +175,11 @@ opening words tree elf input = and_then (asked words) (λ options. opened_for op
 abbrev pub MountedKernel : Type 0
 MountedKernel = kernel.Kernel (List Mount) Watch MountNumber 1
 
-abbrev pub TracedKernel : Type 0
-TracedKernel = kernel.Kernel Plain Tracing HostMount 0
-
 abbrev pub started_told : Kind → Started
 started_told (kind.Mounts k) = Mounts (table_of k.places) (machine number_of k)
 started_told (kind.Unmarked k rule) = Mounts (table_of k.places) (told_with k rule)
-started_told (kind.Traced k) = Traced (machine host_number k)
-started_told (kind.Both n watched mounted) = Both n (machine host_number watched) (table_of mounted.places) (machine number_of mounted)
+started_told (kind.Traced k) = Traced (traced_machine k)
+started_told (kind.Both n watched mounted) = Both n (traced_machine watched) (table_of mounted.places) (machine number_of mounted)
 
 abbrev pub begun_told : Opened → Begun
 begun_told o = record { plan = o.plan; started = started_told o.kind }
@@ -248,7 +243,7 @@ mounted_by (Ok s) = begun_with s.table (mounted_start s)
 mounted_by (Err answer) = Err answer
 
 abbrev pub WatchesAs : Result (User × Machine Tracing) Answer → Result (User × TracedKernel) Answer → Type 0
-WatchesAs expected (Ok r) = (expected ≡ Ok (r.0, machine host_number r.1)) × (r.1.whole ≡ true) × (r.1.turns ≡ 0)
+WatchesAs expected (Ok r) = (expected ≡ Ok (r.0, traced_machine r.1)) × (r.1.whole ≡ true) × (r.1.turns ≡ 0)
 WatchesAs expected (Err answer) = (expected ≡ Err answer) ⊎ IsEarly answer
 
 abbrev pub MountsAs : Result (List Row × Machine Watch) Answer → Result MountedKernel Answer → Type 0

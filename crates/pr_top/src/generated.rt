@@ -7,7 +7,7 @@ ghost use Rattle.pr_start.specs.kr_start.Ready.{IsReady};
 ghost use Rattle.kr_mounts.specs.pt_bind.Binding.{rows_of};
 ghost use Rattle.pr_top.specs.Opening.{IsOfStart, IsReadyToRun, MountsAs, OpensFrom, StagesAs, WatchesAs, case_begun, case_staged, mounted_by, watched_by};
 
-use crate::opening::{Kind, Opened};
+use crate::opening::{Kind, Opened, end_watched};
 use kr_mounts::{BindFault, Mounted};
 use kr_tree::User;
 use kr_view::Plain;
@@ -96,7 +96,13 @@ pub(crate) fn begin_case(alloc: Global, number: u32, options: Options) -> Result
     ensures ready { IfOk result (λ opened. IsReadyToRun opened) }
 {
     let (user, watched) = begin_watched(alloc, number)?;
-    let mounted = begin_mounted(alloc, number)?;
+    let mounted = match begin_mounted(alloc, number) {
+        Ok(mounted) => mounted,
+        Err(answer) => {
+            end_watched(watched);
+            return Err(answer);
+        }
+    };
     let plan = Plan {
         turns: options.turns,
         schedule: options.schedule,

@@ -29,7 +29,6 @@ use std::alloc::Global;
 
 /// A machine: a kernel over mounts, whose shelves are marked so that it tells whether a run is calm; or one that keeps no marks, where that
 /// isn't asked, with the rule that its start broke; or a plain kernel with its tracer; or both, for a generated case.
-#[derive(Drop)]
 pub(crate) enum Kind {
     Mounts(Kernel<Mounted, Watch, 1>),
     Unmarked {
@@ -43,6 +42,37 @@ pub(crate) enum Kind {
         mounted: Kernel<Mounted, Watch, 1>,
     },
 }
+
+/// Written, and each kernel let go in a function of its own, so that who lets a machine go makes one call, and need not know what it holds.
+impl Drop for Kind {
+    fn drop(self) {
+        match self {
+            Kind::Mounts(kernel) => end_marked(kernel),
+            Kind::Unmarked {
+                kernel,
+                broken: _broken,
+            } => end_unmarked(kernel),
+            Kind::Traced(kernel) => end_watched(kernel),
+            Kind::Both {
+                case: _case,
+                watched,
+                mounted,
+            } => {
+                end_watched(watched);
+                end_marked(mounted);
+            }
+        }
+    }
+}
+
+/// Lets a kernel with marks go.
+fn end_marked(_kernel: Kernel<Mounted, Watch, 1>) {}
+
+/// Lets one without marks go.
+fn end_unmarked(_kernel: Kernel<Mounted, Watch, 0>) {}
+
+/// Lets a plain kernel and its tracer go.
+pub(crate) fn end_watched(_kernel: Kernel<Plain, Tracer, 0>) {}
 
 /// A run that has begun: its machine, and what it is made by.
 #[derive(Drop)]

@@ -24,9 +24,12 @@ both first (Some second) = first ∷ second ∷ []
 
 -- ---- the shelf
 
--- a path has at most 4,095 bytes and a zero
+-- a path has at most that many bytes, and a zero
+abbrev pub longest_path : ℕ
+longest_path = 4095
+
 abbrev pub is_long : Swapped → Bool
-is_long s = nat_lt 4095 (length s.text)
+is_long s = nat_lt longest_path (length s.text)
 
 abbrev pub is_second_long : Option Swapped → Bool
 is_second_long None = false

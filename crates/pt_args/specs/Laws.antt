@@ -1,6 +1,7 @@
 -- Laws of edits and of the shelf.
 use Rattle.std.specs.Prelude.{◌≡◌, ◌≢◌, ℕ, ◌+◌, ◌-◌, ◌%◌, ◌<◌, ◌≤◌, true, Bool, List, [], ◌∷◌, length, map, Some, None, Ok, ◌⊎◌}
 use Rattle.std.specs.List.{All}
+use Rattle.pt_canon.specs.pr_base.Paths.{text_limit}
 use Rattle.kr_calls.specs.rv_mem.Memory.{text_of}
 use Rattle.kr_calls.specs.rv_mem.Pages.{Pages, IsWhole, allows, written}
 use Rattle.kr_calls.specs.rv_mem.declared.rights.Use.TheVariants.{Read}
@@ -8,7 +9,7 @@ use Rattle.pt_canon.specs.TextWalk.{TextSurroundings}
 use Rattle.kr_calls.specs.PathTable.{PathUse, path_at}
 use Rattle.kr_calls.specs.declared.request.Request.{Request}
 use Rattle.pt_args.specs.Edits.{edit_of}
-use Rattle.pt_args.specs.Shelving.{address_below, shelved, with_zero}
+use Rattle.pt_args.specs.Shelving.{address_below, shelf_size, shelved, with_zero}
 use Rattle.pt_args.specs.declared.edit.Edit.TheVariants.{Pass, Swap}
 
 -- ---- the shelf
@@ -36,9 +37,9 @@ abbrev pub poked : Pages → List (ℕ × List ℕ) → Pages
 poked m [] = m
 poked m (p ∷ items) = poked (written m p.0 p.1) items
 
--- a text that a path can be: at most 4,095 bytes, none of them zero
+-- a text that a path can be: fewer bytes than a path has with its zero, none of them zero
 pub record IsPathText (text : List ℕ) : Type 0 where
-  pub short : length text < 4096
+  pub short : length text < text_limit
   pub no_zero : All (λ b. b ≢ 0) text
 
 -- at each address stands the text of its place, read as a path is
@@ -46,7 +47,7 @@ abbrev pub AreReadBack : Pages → List (ℕ × List ℕ) → List (List ℕ) �
 AreReadBack m [] [] = Unit {0}
 AreReadBack m [] (text ∷ texts) = ⊥
 AreReadBack m (p ∷ items) [] = ⊥
-AreReadBack m (p ∷ items) (text ∷ texts) = (text_of m p.0 4096 ≡ Ok text) × AreReadBack m items texts
+AreReadBack m (p ∷ items) (text ∷ texts) = (text_of m p.0 text_limit ≡ Ok text) × AreReadBack m items texts
 
 -- texts that were put where there is room for them, in memory that may be read, are read back
 abbrev pub TextsAreReadBack : Type 0
@@ -72,4 +73,4 @@ pub record EditsKeepToPaths : Type 0 where
       → edit_of texts pid sp usable request ≡ Swap regs pokes → usable ≡ true
   -- no byte is written but in a shelf that can be used
   pub within : (texts : TextSurroundings) (pid sp : ℕ) (usable : Bool) (request : Request) (regs : List (ℕ × ℕ)) (pokes : List (ℕ × List ℕ))
-      → 65536 ≤ sp → edit_of texts pid sp usable request ≡ Swap regs pokes → (usable ≡ true) × StandBetween (sp - 65536) sp pokes
+      → shelf_size ≤ sp → edit_of texts pid sp usable request ≡ Swap regs pokes → (usable ≡ true) × StandBetween (sp - shelf_size) sp pokes

@@ -2,6 +2,10 @@
 use Rattle.std.specs.Prelude.{ℕ, ◌-◌, ◌*◌, ◌/◌, List, [], ◌∷◌, ◌++◌, length}
 use Rattle.pt_args.specs.declared.shelf.Shelf.{Shelf}
 
+-- the bytes below a process's stack pointer that are its shelf
+abbrev pub shelf_size : ℕ
+shelf_size = 65536
+
 -- the highest such address for `size` bytes
 abbrev pub address_below : ℕ → ℕ → ℕ
 address_below top size = (top - size) / 8 * 8

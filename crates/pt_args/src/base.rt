@@ -6,38 +6,76 @@ ghost use Rattle.pt_canon.specs.Canon.{IsAnswer, texts_by};
 ghost use Rattle.pt_args.specs.Bases.{base_of, descriptor_base, descriptor_number, is_working_directory, or_lost, tagged_text, working_base, working_text};
 ghost use Rattle.pt_canon.specs.Leaving.{OnlyPeeks};
 
+use crate::caller::Caller;
 use kr_calls::PathArg;
 use pt_canon::WalkErr;
 use pt_canon::below::pr_base::limits::AT_FDCWD;
 use pt_canon::below::pr_base::{BaseKind, Bytes, Errno, NoMemory, Peeks, components};
 use pt_canon::below::pt_bind::{Table, Tags};
-use std::alloc::Global;
 
-/// The guest text from which a path is taken: the root for an absolute one, else that of the working directory or of the
-/// directory that is open under its descriptor. `None` where no directory is open there, which the kernel finds by
-/// itself; ENOENT where a directory has no guest text.
-pub(crate) fn base_of<K: Peeks>(
-    alloc: Global,
-    kernel: &mut K,
-    table: &Table,
-    tags: &Tags,
-    pid: u32,
-    path: PathArg<'_>,
-) -> Result<Option<Bytes>, WalkErr>
-    ensures answer { IsAnswer (base_of (texts_by table.now (K.peeked kernel.old) tags.now) pid (path_use path.entry)) result }
-    ensures written { IfOk result (λ base. IfSome base IsWritten) }
-    ensures kernel { OnlyPeeks K.peeked K.kept kernel.old kernel.new }
-{
-    if components(path.text).absolute() {
-        let root = Bytes::copy(alloc, b"/")?;
-        return Ok(Some(root));
+impl<'a> Caller<'a> {
+    /// The guest text from which a path is taken: the root for an absolute one, else that of the working directory or of the
+    /// directory that is open under its descriptor. `None` where no directory is open there, which the kernel finds by
+    /// itself; ENOENT where a directory has no guest text.
+    pub(crate) fn base_of<K: Peeks>(
+        &self,
+        kernel: &mut K,
+        table: &Table,
+        path: PathArg<'_>,
+    ) -> Result<Option<Bytes>, WalkErr>
+        ensures answer { let texts = texts_by table.now (K.peeked kernel.old) self.now.tags.now in
+            IsAnswer (base_of texts self.now.pid (path_use path.entry)) result }
+        ensures written { IfOk result (λ base. IfSome base IsWritten) }
+        ensures kernel { OnlyPeeks K.peeked K.kept kernel.old kernel.new }
+    {
+        if components(path.text).absolute() {
+            let root = Bytes::copy(self.alloc, b"/")?;
+            return Ok(Some(root));
+        }
+        if is_working_directory(path.dirfd) {
+            return self.working_base(kernel, table);
+        }
+        match descriptor_number(path.dirfd) {
+            Some(fd) => self.descriptor_base(kernel, table, fd),
+            None => Ok(None),
+        }
     }
-    if is_working_directory(path.dirfd) {
-        return working_base(kernel, table, tags, pid);
+
+    /// The working directory as a base.
+    fn working_base<K: Peeks>(
+        &self,
+        kernel: &mut K,
+        table: &Table,
+    ) -> Result<Option<Bytes>, WalkErr>
+        ensures answer { let texts = texts_by table.now (K.peeked kernel.old) self.now.tags.now in
+            IsAnswer (working_base texts self.now.pid) result }
+        ensures written { IfOk result (λ base. IfSome base IsWritten) }
+        ensures kernel { OnlyPeeks K.peeked K.kept kernel.old kernel.new }
+    {
+        let text = working_text(kernel, table, self.tags, self.pid)?;
+        or_lost(text)
     }
-    match descriptor_number(path.dirfd) {
-        Some(fd) => descriptor_base(kernel, table, tags, pid, fd),
-        None => Ok(None),
+
+    /// The directory that is open under a descriptor as a base.
+    fn descriptor_base<K: Peeks>(
+        &self,
+        kernel: &mut K,
+        table: &Table,
+        fd: u32,
+    ) -> Result<Option<Bytes>, WalkErr>
+        ensures answer { let texts = texts_by table.now (K.peeked kernel.old) self.now.tags.now in
+            IsAnswer (descriptor_base texts self.now.pid fd ((K.peeked kernel.old).base_kind self.now.pid fd)) result }
+        ensures written { IfOk result (λ base. IfSome base IsWritten) }
+        ensures kernel { OnlyPeeks K.peeked K.kept kernel.old kernel.new }
+    {
+        match kernel.base_kind(self.pid, fd) {
+            BaseKind::Closed | BaseKind::Other => Ok(None),
+            BaseKind::Dir => {
+                let name = base_name(kernel, self.pid, fd)?;
+                let text = tagged(table, self.tags.fd(self.pid, fd), name)?;
+                or_lost(text)
+            }
+        }
     }
 }
 
@@ -58,21 +96,6 @@ fn descriptor_number(dirfd: i32) -> Option<u32>
     }
 }
 
-/// The working directory as a base.
-fn working_base<K: Peeks>(
-    kernel: &mut K,
-    table: &Table,
-    tags: &Tags,
-    pid: u32,
-) -> Result<Option<Bytes>, WalkErr>
-    ensures answer { IsAnswer (working_base (texts_by table.now (K.peeked kernel.old) tags.now) pid) result }
-    ensures written { IfOk result (λ base. IfSome base IsWritten) }
-    ensures kernel { OnlyPeeks K.peeked K.kept kernel.old kernel.new }
-{
-    let text = working_text(kernel, table, tags, pid)?;
-    or_lost(text)
-}
-
 /// The guest text of a process's working directory; `None` exactly where it has none: the directory was removed, or it isn't
 /// at or below the source of its tag's binding.
 pub fn working_text<K: Peeks>(
@@ -87,28 +110,6 @@ pub fn working_text<K: Peeks>(
 {
     let name = cwd_name(kernel, pid)?;
     tagged(table, tags.cwd(pid), name)
-}
-
-/// The directory that is open under a descriptor as a base.
-fn descriptor_base<K: Peeks>(
-    kernel: &mut K,
-    table: &Table,
-    tags: &Tags,
-    pid: u32,
-    fd: u32,
-) -> Result<Option<Bytes>, WalkErr>
-    ensures answer { IsAnswer (descriptor_base (texts_by table.now (K.peeked kernel.old) tags.now) pid fd ((K.peeked kernel.old).base_kind pid fd)) result }
-    ensures written { IfOk result (λ base. IfSome base IsWritten) }
-    ensures kernel { OnlyPeeks K.peeked K.kept kernel.old kernel.new }
-{
-    match kernel.base_kind(pid, fd) {
-        BaseKind::Closed | BaseKind::Other => Ok(None),
-        BaseKind::Dir => {
-            let name = base_name(kernel, pid, fd)?;
-            let text = tagged(table, tags.fd(pid, fd), name)?;
-            or_lost(text)
-        }
-    }
 }
 
 /// The host name of a working directory.

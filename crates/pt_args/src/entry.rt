@@ -7,10 +7,11 @@ ghost use Rattle.pt_args.specs.Shelving.{address_below, with_item, with_zero};
 ghost use Rattle.pt_args.specs.Walks.{IsReached};
 ghost use Rattle.pt_canon.specs.Leaving.{OnlyPeeks};
 
+use crate::caller::Caller;
 use crate::edit::{Edit, Swaps};
-use crate::plan::{Plan, Swapped, plan_second};
+use crate::plan::{Plan, Swapped};
 use crate::purpose::opens;
-use crate::reached::{Reached, walk_path};
+use crate::reached::Reached;
 use crate::shelf::Shelf;
 use kr_calls::{Request, path_of};
 use pt_canon::below::pr_base::limits::PATH_MAX;
@@ -74,20 +75,87 @@ pub fn rewrite_along<K: Peeks>(
     ensures walker { walker.new ≡ walker.old }
     ensures kernel { OnlyPeeks K.peeked K.kept kernel.old kernel.new }
 {
-    let Some(path) = path_of(request, 0) else {
-        return Ok(only(Edit::Pass));
+    let entry = Entry {
+        caller: Caller { alloc, tags, pid },
+        sp,
+        shelf,
+        request,
     };
-    match walk_path(alloc, kernel, walker, tags, pid, opens(request), path) {
-        Ok(Some(first)) => {
-            let edit = edit_behind(alloc, kernel, walker, tags, pid, sp, shelf, request, &first)?;
-            Ok(Rewritten {
-                edit,
-                first: Some(first),
-            })
+    entry.along(kernel, walker)
+}
+
+/// A call at its entry: its caller, the stack pointer, and whether the shelf below it may be read and written.
+#[derive(Clone, Copy)]
+struct Entry<'a> {
+    caller: Caller<'a>,
+    sp: u64,
+    shelf: bool,
+    request: &'a Request,
+}
+
+impl<'a> Entry<'a> {
+    /// What becomes of it (`rewrite`), and where its first path led.
+    fn along<K: Peeks>(&self, kernel: &mut K, walker: &mut Walker) -> Result<Rewritten, NoMemory>
+        requires { IsTrue self.now.shelf → 65536 ≤ self.now.sp }
+        ensures edit { let texts = texts_by walker.old (K.peeked kernel.old) self.now.caller.tags.now in
+            IfOk result (λ r. r.edit ≡ edit_of texts self.now.caller.pid self.now.sp self.now.shelf self.now.request.now) }
+        ensures first { let texts = texts_by walker.old (K.peeked kernel.old) self.now.caller.tags.now in
+            IfOk result (λ r. r.first ≡ first_of texts self.now.caller.pid self.now.request.now) }
+        ensures walker { walker.new ≡ walker.old }
+        ensures kernel { OnlyPeeks K.peeked K.kept kernel.old kernel.new }
+    {
+        let Some(path) = path_of(self.request, 0) else {
+            return Ok(only(Edit::Pass));
+        };
+        let opening = opens(self.request);
+        match self.caller.walk_path(kernel, walker, opening, path) {
+            Ok(Some(first)) => {
+                let edit = self.edit_behind(kernel, walker, &first)?;
+                Ok(Rewritten {
+                    edit,
+                    first: Some(first),
+                })
+            }
+            Ok(None) => Ok(only(Edit::Pass)),
+            Err(WalkErr::Err(errno)) => Ok(only(Edit::Cancel(errno))),
+            Err(WalkErr::NoMemory) => Err(NoMemory),
         }
-        Ok(None) => Ok(only(Edit::Pass)),
-        Err(WalkErr::Err(errno)) => Ok(only(Edit::Cancel(errno))),
-        Err(WalkErr::NoMemory) => Err(NoMemory),
+    }
+
+    /// What becomes of it, once its first path was walked.
+    fn edit_behind<K: Peeks>(
+        &self,
+        kernel: &mut K,
+        walker: &mut Walker,
+        first: &Reached,
+    ) -> Result<Edit, NoMemory>
+        requires shelf { IsTrue self.now.shelf → 65536 ≤ self.now.sp }
+        requires first { IsReached first.now }
+        ensures edit { let texts = texts_by walker.old (K.peeked kernel.old) self.now.caller.tags.now in
+            IfOk result (λ edit. edit ≡ edit_by self.now.sp self.now.shelf (plan_second texts self.now.caller.pid self.now.request.now first.now)) }
+        ensures walker { walker.new ≡ walker.old }
+        ensures kernel { OnlyPeeks K.peeked K.kept kernel.old kernel.new }
+    {
+        match self.caller.plan_second(kernel, walker, self.request, first) {
+            Ok(Plan::Passes) => Ok(Edit::Pass),
+            Ok(Plan::Swaps(first, second)) => self.shelve(first, second),
+            Err(WalkErr::Err(errno)) => Ok(Edit::Cancel(errno)),
+            Err(WalkErr::NoMemory) => Err(NoMemory),
+        }
+    }
+
+    /// Puts the texts on the shelf, if they aren't too long and the shelf can be used.
+    fn shelve(&self, first: Swapped, second: Option<Swapped>) -> Result<Edit, NoMemory>
+        requires { IsTrue self.now.shelf → 65536 ≤ self.now.sp }
+        ensures { IfOk result (λ edit. edit ≡ shelve self.now.sp self.now.shelf first second) }
+    {
+        if is_long(&first) || is_second_long(&second) {
+            return Ok(Edit::Cancel(Errno::ENAMETOOLONG));
+        }
+        if !self.shelf {
+            return Ok(Edit::Cancel(Errno::EFAULT));
+        }
+        put_both(self.caller.alloc, self.sp, first, second)
     }
 }
 
@@ -97,52 +165,6 @@ fn only(edit: Edit) -> Rewritten
     ensures first { result.first ≡ None }
 {
     Rewritten { edit, first: None }
-}
-
-/// What becomes of a call, once its first path was walked.
-fn edit_behind<K: Peeks>(
-    alloc: Global,
-    kernel: &mut K,
-    walker: &mut Walker,
-    tags: &Tags,
-    pid: u32,
-    sp: u64,
-    shelf: bool,
-    request: &Request,
-    first: &Reached,
-) -> Result<Edit, NoMemory>
-    requires shelf { IsTrue shelf → 65536 ≤ sp }
-    requires first { IsReached first.now }
-    ensures edit { IfOk result (λ edit. edit ≡ edit_by sp shelf (plan_second (texts_by walker.old (K.peeked kernel.old) tags.now) pid request.now first.now)) }
-    ensures walker { walker.new ≡ walker.old }
-    ensures kernel { OnlyPeeks K.peeked K.kept kernel.old kernel.new }
-{
-    match plan_second(alloc, kernel, walker, tags, pid, request, first) {
-        Ok(Plan::Passes) => Ok(Edit::Pass),
-        Ok(Plan::Swaps(first, second)) => shelve(alloc, sp, shelf, first, second),
-        Err(WalkErr::Err(errno)) => Ok(Edit::Cancel(errno)),
-        Err(WalkErr::NoMemory) => Err(NoMemory),
-    }
-}
-
-/// Puts the texts on the shelf, if they aren't too long and the shelf can be used.
-fn shelve(
-    alloc: Global,
-    sp: u64,
-    shelf: bool,
-    first: Swapped,
-    second: Option<Swapped>,
-) -> Result<Edit, NoMemory>
-    requires { IsTrue shelf → 65536 ≤ sp }
-    ensures { IfOk result (λ edit. edit ≡ shelve sp shelf first second) }
-{
-    if is_long(&first) || is_second_long(&second) {
-        return Ok(Edit::Cancel(Errno::ENAMETOOLONG));
-    }
-    if !shelf {
-        return Ok(Edit::Cancel(Errno::EFAULT));
-    }
-    put_both(alloc, sp, first, second)
 }
 
 /// Whether a text is too long for a path.

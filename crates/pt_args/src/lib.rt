@@ -17,6 +17,7 @@
 
 pub mod base;
 pub mod below;
+pub mod caller;
 pub mod edit;
 pub mod entry;
 pub mod laws;
@@ -28,9 +29,10 @@ pub mod reached;
 pub mod shelf;
 
 pub use base::working_text;
+pub use caller::Caller;
 pub use edit::{Edit, Pokes, Swaps};
 pub use entry::{Rewritten, rewrite, rewrite_along};
 pub use parting::parted;
 pub use purpose::Purpose;
-pub use reached::{Reached, walk_path};
+pub use reached::Reached;
 pub use shelf::Shelf;

@@ -7,12 +7,13 @@ ghost use Rattle.pt_args.specs.Plans.{plan_both, plan_first, plan_one, plan_seco
 ghost use Rattle.pt_args.specs.Walks.{IsReached};
 ghost use Rattle.pt_canon.specs.Leaving.{OnlyPeeks};
 
+use crate::caller::Caller;
 use crate::point::{both_are_busy, one_is_busy};
 use crate::purpose::{opens, text_for};
-use crate::reached::{Reached, walk_path};
+use crate::reached::Reached;
 use kr_calls::{Request, path_of};
 use pt_canon::below::pr_base::{Bytes, Errno, Peeks};
-use pt_canon::below::pt_bind::{Table, Tags};
+use pt_canon::below::pt_bind::Table;
 use pt_canon::{WalkErr, Walker};
 use std::alloc::Global;
 
@@ -32,27 +33,29 @@ pub(crate) enum Plan {
     Swaps(Swapped, Option<Swapped>),
 }
 
-/// What becomes of the paths of a call, once the first one was walked, or the error that cancels it. The first path is taken before the second.
-pub(crate) fn plan_second<K: Peeks>(
-    alloc: Global,
-    kernel: &mut K,
-    walker: &mut Walker,
-    tags: &Tags,
-    pid: u32,
-    request: &Request,
-    first: &Reached,
-) -> Result<Plan, WalkErr>
-    requires { IsReached first.now }
-    ensures answer { IsAnswer (plan_second (texts_by walker.old (K.peeked kernel.old) tags.now) pid request.now first.now) result }
-    ensures walker { walker.new ≡ walker.old }
-    ensures kernel { OnlyPeeks K.peeked K.kept kernel.old kernel.new }
-{
-    let Some(path) = path_of(request, 1) else {
-        return plan_one(alloc, walker.table(), request, first);
-    };
-    match walk_path(alloc, kernel, walker, tags, pid, opens(request), path)? {
-        Some(second) => plan_both(alloc, walker.table(), request, first, &second),
-        None => plan_first(alloc, walker.table(), first),
+impl<'a> Caller<'a> {
+    /// What becomes of the paths of a call, once the first one was walked, or the error that cancels it. The first path is taken before the
+    /// second.
+    pub(crate) fn plan_second<K: Peeks>(
+        &self,
+        kernel: &mut K,
+        walker: &mut Walker,
+        request: &Request,
+        first: &Reached,
+    ) -> Result<Plan, WalkErr>
+        requires { IsReached first.now }
+        ensures answer { let texts = texts_by walker.old (K.peeked kernel.old) self.now.tags.now in
+            IsAnswer (plan_second texts self.now.pid request.now first.now) result }
+        ensures walker { walker.new ≡ walker.old }
+        ensures kernel { OnlyPeeks K.peeked K.kept kernel.old kernel.new }
+    {
+        let Some(path) = path_of(request, 1) else {
+            return plan_one(self.alloc, walker.table(), request, first);
+        };
+        match self.walk_path(kernel, walker, opens(request), path)? {
+            Some(second) => plan_both(self.alloc, walker.table(), request, first, &second),
+            None => plan_first(self.alloc, walker.table(), first),
+        }
     }
 }
 

@@ -6,14 +6,12 @@ ghost use Rattle.pt_canon.specs.Canon.{IsAnswer, texts_by};
 ghost use Rattle.pt_args.specs.Walks.{walked, walked_from, IsReached};
 ghost use Rattle.pt_canon.specs.Leaving.{OnlyPeeks};
 
-use crate::base::base_of;
+use crate::caller::Caller;
 use crate::purpose::{Purpose, purpose_of};
 use kr_calls::PathArg;
 use pt_canon::below::pr_base::Peeks;
-use pt_canon::below::pt_bind::Tags;
 use pt_canon::laws::answers_are_of_their_texts;
 use pt_canon::{Canon, WalkErr, Walker};
-use std::alloc::Global;
 
 /// Where a path of a call leads, what it is for, and the number of the register that holds its address.
 #[derive(Drop)]
@@ -23,52 +21,54 @@ pub struct Reached {
     pub canon: Canon,
 }
 
-/// Where a path of a call leads; `None` where the plain kernel is to see it as it is: an empty one, which stands for a
-/// descriptor, and one that begins where no directory is open. `opening` tells whether the call is openat(2).
-pub fn walk_path<K: Peeks>(
-    alloc: Global,
-    kernel: &mut K,
-    walker: &mut Walker,
-    tags: &Tags,
-    pid: u32,
-    opening: bool,
-    path: PathArg<'_>,
-) -> Result<Option<Reached>, WalkErr>
-    ensures answer { IsAnswer (walked (texts_by walker.old (K.peeked kernel.old) tags.now) pid opening (path_use path.entry)) result }
-    ensures written { IfOk result (λ reached. IfSome reached IsReached) }
-    ensures walker { walker.new ≡ walker.old }
-    ensures kernel { OnlyPeeks K.peeked K.kept kernel.old kernel.new }
-{
-    if path.text.is_empty() {
-        return Ok(None);
+impl<'a> Caller<'a> {
+    /// Where a path of a call leads; `None` where the plain kernel is to see it as it is: an empty one, which stands for a
+    /// descriptor, and one that begins where no directory is open. `opening` tells whether the call is openat(2).
+    pub fn walk_path<K: Peeks>(
+        &self,
+        kernel: &mut K,
+        walker: &mut Walker,
+        opening: bool,
+        path: PathArg<'_>,
+    ) -> Result<Option<Reached>, WalkErr>
+        ensures answer { let texts = texts_by walker.old (K.peeked kernel.old) self.now.tags.now in
+            IsAnswer (walked texts self.now.pid opening (path_use path.entry)) result }
+        ensures written { IfOk result (λ reached. IfSome reached IsReached) }
+        ensures walker { walker.new ≡ walker.old }
+        ensures kernel { OnlyPeeks K.peeked K.kept kernel.old kernel.new }
+    {
+        if path.text.is_empty() {
+            return Ok(None);
+        }
+        match self.base_of(kernel, walker.table(), path)? {
+            Some(base) => self.walk_from(kernel, walker, base.as_slice(), opening, path),
+            None => Ok(None),
+        }
     }
-    match base_of(alloc, kernel, walker.table(), tags, pid, path)? {
-        Some(base) => walk_from(kernel, walker, tags, base.as_slice(), opening, path),
-        None => Ok(None),
-    }
-}
 
-/// Where a path leads from a guest text.
-fn walk_from<K: Peeks>(
-    kernel: &mut K,
-    walker: &mut Walker,
-    tags: &Tags,
-    base: &[u8],
-    opening: bool,
-    path: PathArg<'_>,
-) -> Result<Option<Reached>, WalkErr>
-    requires { IsWritten base.now }
-    ensures answer { IsAnswer (walked_from (texts_by walker.old (K.peeked kernel.old) tags.now) opening (path_use path.entry) (Some base.now)) result }
-    ensures written { IfOk result (λ reached. IfSome reached IsReached) }
-    ensures walker { walker.new ≡ walker.old }
-    ensures kernel { OnlyPeeks K.peeked K.kept kernel.old kernel.new }
-{
-    answers_are_of_their_texts();
-    let canon = walker.canon(kernel, tags, base, path.text, path.mode)?;
-    let purpose = purpose_of(opening, path.mode);
-    Ok(Some(Reached {
-        register: path.register,
-        purpose,
-        canon,
-    }))
+    /// Where a path leads from a guest text.
+    fn walk_from<K: Peeks>(
+        &self,
+        kernel: &mut K,
+        walker: &mut Walker,
+        base: &[u8],
+        opening: bool,
+        path: PathArg<'_>,
+    ) -> Result<Option<Reached>, WalkErr>
+        requires { IsWritten base.now }
+        ensures answer { let texts = texts_by walker.old (K.peeked kernel.old) self.now.tags.now in
+            IsAnswer (walked_from texts opening (path_use path.entry) (Some base.now)) result }
+        ensures written { IfOk result (λ reached. IfSome reached IsReached) }
+        ensures walker { walker.new ≡ walker.old }
+        ensures kernel { OnlyPeeks K.peeked K.kept kernel.old kernel.new }
+    {
+        answers_are_of_their_texts();
+        let canon = walker.canon(kernel, self.tags, base, path.text, path.mode)?;
+        let purpose = purpose_of(opening, path.mode);
+        Ok(Some(Reached {
+            register: path.register,
+            purpose,
+            canon,
+        }))
+    }
 }

@@ -202,6 +202,10 @@ impl Stops for Faker {
 
     ghost forgets = { λ x pid y. y ≡ gone x pid };
 
+    ghost agrees = { λ x t user. Unit {0} };
+
+    ghost is_free = { λ x pid. Unit {0} };
+
     fn entry<T: Tracee>(&mut self, t: &mut T) -> Result<(), NoMemory> {
         let pid = t.pid();
         match t.request() {
@@ -231,4 +235,8 @@ impl Stops for Faker {
         self.identities.gone(pid);
         let _due = self.dues.take(pid);
     }
+
+    ghost free_agrees = { λ x pid free t user. tt };
+
+    ghost lasts_with_shape = { λ x t u user sound shape before. tt };
 }

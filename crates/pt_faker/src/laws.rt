@@ -29,5 +29,5 @@ pub fn come_and_go()
 
 /// What the watcher does at the stops, and as processes come and go, are the definition's functions: so turns and runs with it are.
 pub fn faker_is_its_definition()
-    ensures { IsGraph (watching ⟦<Faker as Stops>⟧.enters ⟦<Faker as Stops>⟧.exits ⟦<Faker as Stops>⟧.bears ⟦<Faker as Stops>⟧.forgets) faker }
+    ensures { IsGraph (λ x. x) (watching ⟦<Faker as Stops>⟧.enters ⟦<Faker as Stops>⟧.exits ⟦<Faker as Stops>⟧.bears ⟦<Faker as Stops>⟧.forgets) faker }
 {}

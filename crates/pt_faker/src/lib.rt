@@ -15,8 +15,8 @@
 //! Of the definition: a second stop without a first one changes nothing (`exits_follow_entries`), a first one forgets what an earlier one left
 //! (`entries_forget`), all other identities stay (`others_stay`), and processes come as their parents are and go without a trace (`come_and_go`).
 //!
-//! Who watches a run on the kernel with mounts: nobody, or that watcher (`Watch`). `Graphed` is the trait of watchers whose stops are functions,
-//! and those of `Watch` are the definition's (`is_graph`; `specs/Watches.antt`).
+//! Who watches a run on the kernel with mounts: nobody, or that watcher (`Watch`). `Graphed` is the trait of watchers whose stops are functions of
+//! a part of what they keep, and those of `Watch` are the definition's (`is_graph`; `specs/Watches.antt`).
 //!
 //! Only tested, or not shown: `rows` (tables of the numbers,
 //! groups, owners and processes).

@@ -27,6 +27,10 @@ impl Stops for Watch {
 
     ghost forgets = { λ x pid y. y ≡ gone x pid };
 
+    ghost agrees = { λ x t user. Unit {0} };
+
+    ghost is_free = { λ x pid. Unit {0} };
+
     fn entry<T: Tracee>(&mut self, t: &mut T) -> Result<(), NoMemory> {
         // For the proof alone: the process lives.
         let _pid = t.pid();
@@ -58,10 +62,19 @@ impl Stops for Watch {
             Watch::Faked(faker) => faker.gone(pid),
         }
     }
+
+    ghost free_agrees = { λ x pid free t user. tt };
+
+    ghost lasts_with_shape = { λ x t u user sound shape before. tt };
 }
 
 impl Graphed for Watch {
     ghost use Rattle.pt_faker.specs.Watches.{watch};
+    ghost use Rattle.pt_faker.specs.declared.watch.Watch.{Watch};
+
+    ghost Part = { Watch };
+
+    ghost part = { λ x. x };
 
     ghost does = { watch };
 

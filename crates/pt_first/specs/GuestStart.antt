@@ -11,6 +11,7 @@ use Rattle.pt_bind.specs.Tags.{TagTable, with_tag}
 use Rattle.pt_bind.specs.declared.slot.Slot.TheVariants as slot
 use Rattle.pt_canon.specs.TextWalk.{TextSurroundings}
 use Rattle.pt_canon.specs.declared.canon.Canon.{Canon}
+use Rattle.pt_script.specs.pt_args.Edits.{longest_path}
 use Rattle.pt_script.specs.pt_args.Walks.{and_then}
 use Rattle.pt_script.specs.Expanding.{expanded_from}
 use Rattle.pt_script.specs.Programs.{canon_from, program_from}
@@ -63,9 +64,9 @@ abbrev pub is_found : Result Program Errno → Bool
 is_found (Ok program) = true
 is_found (Err e) = false
 
--- a path has at most 4,095 bytes, so a longer host text can't be handed to the kernel
+-- a host text that is longer than a path can't be handed to the kernel
 abbrev pub if_short : Canon → Result Canon Errno
-if_short canon = if nat_lt 4095 (length canon.host) then Err ENAMETOOLONG else Ok canon
+if_short canon = if nat_lt longest_path (length canon.host) then Err ENAMETOOLONG else Ok canon
 
 abbrev pub base_of : List ℕ → List ℕ → List ℕ
 base_of working path = if is_absolute path then root_text else working

@@ -17,6 +17,7 @@
 pub mod begun;
 mod command;
 mod directory;
+mod launcher;
 pub mod laws;
 pub mod peeks;
 mod program;

@@ -29,9 +29,7 @@ const FIRST: u32 = 2;
 /// directory has no names yet.
 #[derive(Drop)]
 pub struct FirstPeeks<'a> {
-    alloc: Global,
-    tree: &'a Tree,
-    user: User,
+    looker: Looker<'a>,
 }
 
 impl<'a> Model for FirstPeeks<'a> {
@@ -43,7 +41,7 @@ impl<'a> Model for FirstPeeks<'a> {
 
     ghost coded = { Prim.hlevel (codes, tree_code) };
 
-    ghost view = { λ p. record { tree = p.tree.now; user = p.user } };
+    ghost view = { λ p. record { tree = p.looker.tree.now; user = p.looker.user } };
 }
 
 impl<'a> FirstPeeks<'a> {
@@ -51,7 +49,9 @@ impl<'a> FirstPeeks<'a> {
         ensures tree { result.tree ≡ tree.now }
         ensures user { result.user ≡ user }
     {
-        FirstPeeks { alloc, tree, user }
+        FirstPeeks {
+            looker: Looker { alloc, tree, user },
+        }
     }
 }
 
@@ -66,19 +66,19 @@ impl<'a> Peeks for FirstPeeks<'a> {
     ghost kept = { λ p. p };
 
     fn kind(&mut self, host: &[u8]) -> Result<PeekKind, PeekFault> {
-        kind(self.alloc, self.tree, self.user, host)
+        self.looker.kind(host)
     }
 
     fn link_text(&mut self, host: &[u8]) -> Result<Bytes, PeekFault> {
-        link_text(self.alloc, self.tree, self.user, host)
+        self.looker.link_text(host)
     }
 
     fn head(&mut self, host: &[u8], n: u32) -> Result<Bytes, PeekFault> {
-        head(self.alloc, self.tree, self.user, host, n)
+        self.looker.head(host, n)
     }
 
     fn steady(&mut self, host: &[u8]) -> Result<bool, NoMemory> {
-        steady(self.alloc, self.tree, self.user, host)
+        self.looker.steady(host)
     }
 
     fn base_kind(&mut self, _pid: u32, _fd: u32) -> BaseKind {
@@ -102,56 +102,128 @@ impl<'a> Peeks for FirstPeeks<'a> {
     ghost steady_is_no_jump = { λ p. no-jump-along (around plain p.tree p.user) };
 }
 
-/// The kind of what a host path leads to. It fails as the walk there does.
-fn kind(alloc: Global, tree: &Tree, user: User, host: &[u8]) -> Result<PeekKind, PeekFault>
-    ensures { IsPeeked ((first_peeked tree.now user).kind host.now) result }
-{
-    match find(alloc, tree, user, host)? {
-        Some(object) => kind_of(tree, object),
-        None => Err(PeekFault::Err(Errno::ENOENT)),
-    }
+/// A tree before a process lives, in the name of a user.
+#[derive(Clone, Copy)]
+struct Looker<'a> {
+    alloc: Global,
+    tree: &'a Tree,
+    user: User,
 }
 
-/// The text of the link to which a host path leads.
-fn link_text(alloc: Global, tree: &Tree, user: User, host: &[u8]) -> Result<Bytes, PeekFault>
-    ensures { IsPeeked ((first_peeked tree.now user).link_text host.now) result }
-{
-    match find(alloc, tree, user, host)? {
-        Some(object) => text_of(alloc, tree, object),
-        None => Err(PeekFault::Err(Errno::ENOENT)),
+impl<'a> Looker<'a> {
+    /// The kind of what a host path leads to. It fails as the walk there does.
+    fn kind(&self, host: &[u8]) -> Result<PeekKind, PeekFault>
+        ensures { IsPeeked ((first_peeked self.now.tree.now self.now.user).kind host.now) result }
+    {
+        match self.find(host)? {
+            Some(object) => kind_of(self.tree, object),
+            None => Err(PeekFault::Err(Errno::ENOENT)),
+        }
     }
-}
 
-/// The first bytes of the file to which a host path leads.
-fn head(alloc: Global, tree: &Tree, user: User, host: &[u8], n: u32) -> Result<Bytes, PeekFault>
-    ensures { IsPeeked ((first_peeked tree.now user).head host.now n) result }
-{
-    match find(alloc, tree, user, host)? {
-        Some(object) => head_of(alloc, tree, user, object, n),
-        None => Err(PeekFault::Err(Errno::ENOENT)),
+    /// The text of the link to which a host path leads.
+    fn link_text(&self, host: &[u8]) -> Result<Bytes, PeekFault>
+        ensures { IsPeeked ((first_peeked self.now.tree.now self.now.user).link_text host.now) result }
+    {
+        match self.find(host)? {
+            Some(object) => self.text_of(object),
+            None => Err(PeekFault::Err(Errno::ENOENT)),
+        }
     }
-}
 
-/// Whether the walk along a host path looks up no name in the process directory, wherever it ends.
-fn steady(alloc: Global, tree: &Tree, user: User, host: &[u8]) -> Result<bool, NoMemory>
-    ensures { IfOk result (λ steady. steady ≡ is_steady_path tree.now user host.now) }
-{
-    let mut reach = nowhere();
-    match walked(alloc, tree, user, host, &mut reach) {
-        Ok(_target) => Ok(!reach.met_proc),
-        Err(WalkFault::Err(_errno)) => Ok(!reach.met_proc),
-        Err(WalkFault::NoMemory) => Err(NoMemory),
+    /// The first bytes of the file to which a host path leads.
+    fn head(&self, host: &[u8], n: u32) -> Result<Bytes, PeekFault>
+        ensures { IsPeeked ((first_peeked self.now.tree.now self.now.user).head host.now n) result }
+    {
+        match self.find(host)? {
+            Some(object) => self.head_of(object, n),
+            None => Err(PeekFault::Err(Errno::ENOENT)),
+        }
     }
-}
 
-/// What a host path leads to, where a last link isn't followed.
-fn find(alloc: Global, tree: &Tree, user: User, host: &[u8]) -> Result<Option<Host>, PeekFault>
-    ensures { IsFound (answer_along tree.now user host.now) result }
-{
-    let mut reach = nowhere();
-    match walked(alloc, tree, user, host, &mut reach) {
-        Ok(target) => Ok(found_in(target)),
-        Err(fault) => Err(fault_of(fault)),
+    /// Whether the walk along a host path looks up no name in the process directory, wherever it ends.
+    fn steady(&self, host: &[u8]) -> Result<bool, NoMemory>
+        ensures { IfOk result (λ steady. steady ≡ is_steady_path self.now.tree.now self.now.user host.now) }
+    {
+        let mut reach = nowhere();
+        match self.walked(host, &mut reach) {
+            Ok(_target) => Ok(!reach.met_proc),
+            Err(WalkFault::Err(_errno)) => Ok(!reach.met_proc),
+            Err(WalkFault::NoMemory) => Err(NoMemory),
+        }
+    }
+
+    /// What a host path leads to, where a last link isn't followed.
+    fn find(&self, host: &[u8]) -> Result<Option<Host>, PeekFault>
+        ensures { IsFound (answer_along self.now.tree.now self.now.user host.now) result }
+    {
+        let mut reach = nowhere();
+        match self.walked(host, &mut reach) {
+            Ok(target) => Ok(found_in(target)),
+            Err(fault) => Err(fault_of(fault)),
+        }
+    }
+
+    /// Where the walk along a host path ends, if a last link isn't followed, and what it reaches.
+    fn walked(&self, host: &[u8], reach: &mut Reach) -> Result<Target<HostMount>, WalkFault>
+        ensures answer { IsAnswer number (answer_along self.now.tree.now self.now.user host.now) result }
+        ensures reach { let host_view = around plain self.now.tree.now self.now.user in
+            IsReached host_view LookLink (host_walk self.now.tree.now self.now.user host.now) reach.old reach.new result }
+    {
+        let places = Plain::new();
+        let procs = NoProcs::new();
+        resolve(
+            self.alloc,
+            &places,
+            &procs,
+            self.tree,
+            self.user,
+            FIRST,
+            places.root(),
+            host,
+            WalkMode::LookLink,
+            reach,
+        )
+    }
+
+    /// The text of a link.
+    fn text_of(&self, object: Host) -> Result<Bytes, PeekFault>
+        ensures { IsPeeked (link_text_at self.now.tree.now object) result }
+    {
+        match object {
+            Host::Node(ino) => match self.tree.link_text(ino) {
+                Some(text) => {
+                    let copy = Bytes::copy(self.alloc, text)?;
+                    Ok(copy)
+                }
+                None => Err(PeekFault::Err(Errno::EINVAL)),
+            },
+            Host::Proc(_, _) => Err(PeekFault::Err(Errno::EINVAL)),
+        }
+    }
+
+    /// The first bytes of a file that the user may execute.
+    fn head_of(&self, object: Host, n: u32) -> Result<Bytes, PeekFault>
+        ensures { IsPeeked (head_at self.now.tree.now self.now.user n object) result }
+    {
+        match object {
+            Host::Node(ino) => self.file_head(ino, n),
+            Host::Proc(_, _) => Err(PeekFault::Err(Errno::EACCES)),
+        }
+    }
+
+    /// The first bytes of an inode that is a file which the user may execute.
+    fn file_head(&self, ino: Ino, n: u32) -> Result<Bytes, PeekFault>
+        ensures { IsPeeked (head_at self.now.tree.now self.now.user n (Node ino)) result }
+    {
+        let Some(bytes) = self.tree.file(ino) else {
+            return Err(PeekFault::Err(Errno::EACCES));
+        };
+        if !self.tree.may(self.user, ino, Right::Search) {
+            return Err(PeekFault::Err(Errno::EACCES));
+        }
+        let copy = Bytes::copy(self.alloc, front(bytes, n))?;
+        Ok(copy)
     }
 }
 
@@ -173,34 +245,6 @@ fn nowhere() -> Reach
         longest: 0,
         met_proc: false,
     }
-}
-
-/// Where the walk along a host path ends, if a last link isn't followed, and what it reaches.
-fn walked(
-    alloc: Global,
-    tree: &Tree,
-    user: User,
-    host: &[u8],
-    reach: &mut Reach,
-) -> Result<Target<HostMount>, WalkFault>
-    ensures answer { IsAnswer number (answer_along tree.now user host.now) result }
-    ensures reach { let host_view = around plain tree.now user in
-        IsReached host_view LookLink (host_walk tree.now user host.now) reach.old reach.new result }
-{
-    let places = Plain::new();
-    let procs = NoProcs::new();
-    resolve(
-        alloc,
-        &places,
-        &procs,
-        tree,
-        user,
-        FIRST,
-        places.root(),
-        host,
-        WalkMode::LookLink,
-        reach,
-    )
 }
 
 /// Why a walk gives no target, as a tracer is told it.
@@ -227,46 +271,6 @@ fn kind_of(tree: &Tree, object: Host) -> Result<PeekKind, PeekFault>
         Host::Proc(_, ProcAt::Dir(_) | ProcAt::FdDir(_)) => Ok(PeekKind::Dir),
         Host::Proc(_, _) => Ok(PeekKind::Jump),
     }
-}
-
-/// The text of a link.
-fn text_of(alloc: Global, tree: &Tree, object: Host) -> Result<Bytes, PeekFault>
-    ensures { IsPeeked (link_text_at tree.now object) result }
-{
-    match object {
-        Host::Node(ino) => match tree.link_text(ino) {
-            Some(text) => {
-                let copy = Bytes::copy(alloc, text)?;
-                Ok(copy)
-            }
-            None => Err(PeekFault::Err(Errno::EINVAL)),
-        },
-        Host::Proc(_, _) => Err(PeekFault::Err(Errno::EINVAL)),
-    }
-}
-
-/// The first bytes of a file that the user may execute.
-fn head_of(alloc: Global, tree: &Tree, user: User, object: Host, n: u32) -> Result<Bytes, PeekFault>
-    ensures { IsPeeked (head_at tree.now user n object) result }
-{
-    match object {
-        Host::Node(ino) => file_head(alloc, tree, user, ino, n),
-        Host::Proc(_, _) => Err(PeekFault::Err(Errno::EACCES)),
-    }
-}
-
-/// The first bytes of an inode that is a file which the user may execute.
-fn file_head(alloc: Global, tree: &Tree, user: User, ino: Ino, n: u32) -> Result<Bytes, PeekFault>
-    ensures { IsPeeked (head_at tree.now user n (Node ino)) result }
-{
-    let Some(bytes) = tree.file(ino) else {
-        return Err(PeekFault::Err(Errno::EACCES));
-    };
-    if !tree.may(user, ino, Right::Search) {
-        return Err(PeekFault::Err(Errno::EACCES));
-    }
-    let copy = Bytes::copy(alloc, front(bytes, n))?;
-    Ok(copy)
 }
 
 /// The first `n` bytes, or all where there are fewer.

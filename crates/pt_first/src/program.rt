@@ -9,12 +9,11 @@ ghost use Rattle.pt_first.specs.GuestStart.{base_of, handed, if_short, run_from,
 ghost use Rattle.pt_canon.specs.Leaving.{OnlyPeeks};
 
 use crate::directory::{ROOT, canon_from};
+use crate::launcher::Launcher;
 use pr_base::limits::{MOST_BYTES, MOST_TEXTS, PATH_MAX};
 use pr_base::{Bytes, Errno, Peeks, Texts, components, is_walked};
-use pt_bind::Tags;
 use pt_canon::{Canon, WalkErr, Walker};
-use pt_script::{Expanded, bytes_within, expand_from, is_too_big, program_from};
-use std::alloc::Global;
+use pt_script::{Expanded, Finder, bytes_within, is_too_big};
 
 /// How many bytes a path has at most.
 const MOST_BYTES_OF_PATHS: usize = PATH_MAX - 1;
@@ -43,26 +42,6 @@ fn base_of<'a>(working: &'a [u8], path: &[u8]) -> &'a [u8]
     }
 }
 
-/// Where a path leads, if its host text isn't longer than a path may be.
-fn handed<K: Peeks>(
-    kernel: &mut K,
-    walker: &mut Walker,
-    tags: &Tags,
-    working: &[u8],
-    path: &[u8],
-) -> Result<Canon, WalkErr>
-    requires { IsWritten working.now }
-    ensures answer { IsAnswer (handed (texts_by walker.old (K.peeked kernel.old) tags.now) working.now path.now) result }
-    ensures walker { walker.new ≡ walker.old }
-    ensures kernel { OnlyPeeks K.peeked K.kept kernel.old kernel.new }
-{
-    let canon = canon_from(kernel, walker, tags, path, base_of(working, path))?;
-    if canon.host.len() > MOST_BYTES_OF_PATHS {
-        return Err(WalkErr::Err(Errno::ENAMETOOLONG));
-    }
-    Ok(canon)
-}
-
 /// How many bytes an environment has with its ends; `None` exactly where it and the arguments are more than a program may be given.
 fn env_bytes(args: &Texts, env: &Texts) -> Option<u32>
     ensures { MatchOption result (are_too_big args.now env.now ≡ true) (λ n. (n ≡ bytes_with_ends env.now) × (are_too_big args.now env.now ≡ false)) }
@@ -78,61 +57,79 @@ fn env_bytes(args: &Texts, env: &Texts) -> Option<u32>
     }
 }
 
-/// The program that runs in the end for a path that is walked, with its arguments.
-fn run_with<K: Peeks>(
-    alloc: Global,
-    kernel: &mut K,
-    walker: &mut Walker,
-    tags: &Tags,
-    working: &[u8],
-    args: Texts,
-    env: &Texts,
-    path: &[u8],
-) -> Result<Expanded, WalkErr>
-    requires { IsWritten working.now }
-    ensures answer { IsAnswer (run_with (texts_by walker.old (K.peeked kernel.old) tags.now) working.now args env.now path.now) result }
-    ensures walker { walker.new ≡ walker.old }
-    ensures kernel { OnlyPeeks K.peeked K.kept kernel.old kernel.new }
-{
-    match env_bytes(&args, env) {
-        Some(env_bytes) => expand_from(
-            alloc,
-            kernel,
-            walker,
-            tags,
-            Some(working),
-            path,
-            args,
-            env_bytes,
-        ),
-        None => {
-            let _program = program_from(alloc, kernel, walker, tags, Some(working), path)?;
-            Err(WalkErr::Err(Errno::E2BIG))
+impl<'a> Launcher<'a> {
+    /// The program that runs in the end for a path, with its arguments. The errors come in this order: ENOENT of an empty path and
+    /// ENAMETOOLONG of one with more than 4,095 bytes, those of its walk, ENAMETOOLONG of a host text that is longer, EACCES where no
+    /// file stands there that the user may execute, E2BIG of the lists, and those of scripts.
+    pub(crate) fn run_from<K: Peeks>(
+        &self,
+        kernel: &mut K,
+        walker: &mut Walker,
+        args: Texts,
+        env: &Texts,
+        path: &[u8],
+    ) -> Result<Expanded, WalkErr>
+        requires { IsWritten self.now.working.now }
+        ensures answer { let texts = texts_by walker.old (K.peeked kernel.old) self.now.tags.now in
+            IsAnswer (run_from texts self.now.working.now args env.now path.now) result }
+        ensures walker { walker.new ≡ walker.old }
+        ensures kernel { OnlyPeeks K.peeked K.kept kernel.old kernel.new }
+    {
+        if !is_walked(path) {
+            return Err(WalkErr::Err(path_errno(path)));
+        }
+        let _canon = self.handed(kernel, walker, path)?;
+        self.run_with(kernel, walker, args, env, path)
+    }
+
+    /// Where a path leads, if its host text isn't longer than a path may be.
+    fn handed<K: Peeks>(
+        &self,
+        kernel: &mut K,
+        walker: &mut Walker,
+        path: &[u8],
+    ) -> Result<Canon, WalkErr>
+        requires { IsWritten self.now.working.now }
+        ensures answer { let texts = texts_by walker.old (K.peeked kernel.old) self.now.tags.now in
+            IsAnswer (handed texts self.now.working.now path.now) result }
+        ensures walker { walker.new ≡ walker.old }
+        ensures kernel { OnlyPeeks K.peeked K.kept kernel.old kernel.new }
+    {
+        let base = base_of(self.working, path);
+        let canon = canon_from(kernel, walker, self.tags, path, base)?;
+        if canon.host.len() > MOST_BYTES_OF_PATHS {
+            return Err(WalkErr::Err(Errno::ENAMETOOLONG));
+        }
+        Ok(canon)
+    }
+
+    /// The program that runs in the end for a path that is walked, with its arguments.
+    fn run_with<K: Peeks>(
+        &self,
+        kernel: &mut K,
+        walker: &mut Walker,
+        args: Texts,
+        env: &Texts,
+        path: &[u8],
+    ) -> Result<Expanded, WalkErr>
+        requires { IsWritten self.now.working.now }
+        ensures answer { let texts = texts_by walker.old (K.peeked kernel.old) self.now.tags.now in
+            IsAnswer (run_with texts self.now.working.now args env.now path.now) result }
+        ensures walker { walker.new ≡ walker.old }
+        ensures kernel { OnlyPeeks K.peeked K.kept kernel.old kernel.new }
+    {
+        let working = Some(self.working);
+        let finder = Finder {
+            alloc: self.alloc,
+            tags: self.tags,
+            working,
+        };
+        match env_bytes(&args, env) {
+            Some(env_bytes) => finder.expand_from(kernel, walker, path, args, env_bytes),
+            None => {
+                let _program = finder.program_from(kernel, walker, path)?;
+                Err(WalkErr::Err(Errno::E2BIG))
+            }
         }
     }
-}
-
-/// The program that runs in the end for a path, with its arguments. The errors come in this order: ENOENT of an empty path and
-/// ENAMETOOLONG of one with more than 4,095 bytes, those of its walk, ENAMETOOLONG of a host text that is longer, EACCES where no
-/// file stands there that the user may execute, E2BIG of the lists, and those of scripts.
-pub(crate) fn run_from<K: Peeks>(
-    alloc: Global,
-    kernel: &mut K,
-    walker: &mut Walker,
-    tags: &Tags,
-    working: &[u8],
-    args: Texts,
-    env: &Texts,
-    path: &[u8],
-) -> Result<Expanded, WalkErr>
-    requires { IsWritten working.now }
-    ensures answer { IsAnswer (run_from (texts_by walker.old (K.peeked kernel.old) tags.now) working.now args env.now path.now) result }
-    ensures walker { walker.new ≡ walker.old }
-    ensures kernel { OnlyPeeks K.peeked K.kept kernel.old kernel.new }
-{
-    if !is_walked(path) {
-        return Err(WalkErr::Err(path_errno(path)));
-    }
-    let _canon = handed(kernel, walker, tags, working, path)?;
-    run_with(alloc, kernel, walker, tags, working, args, env, path)
 }

@@ -7,10 +7,9 @@ ghost use Rattle.pt_first.specs.GuestStart.{IsBegun, begun, guest_start, tagged}
 ghost use Rattle.pt_canon.specs.Leaving.{OnlyPeeks};
 
 use crate::begun::Begun;
-use crate::command::choose;
 use crate::directory::working_directory;
+use crate::launcher::Launcher;
 use crate::peeks::FirstPeeks;
-use crate::program::run_from;
 use kr_first::{First, StartFault};
 use kr_tree::{Tree, User};
 use kr_view::Reach;
@@ -99,29 +98,16 @@ fn begin<K: Peeks>(
     } = launch;
     let working = working_directory(alloc, kernel, walker, tags, cwd.as_slice())?;
     let working = working.as_slice();
-    let Some(path) = choose(
+    let launcher = Launcher {
         alloc,
-        kernel,
-        walker,
         tags,
         working,
-        &env,
-        word_of(&command),
-    )?
-    else {
+    };
+    let Some(path) = launcher.choose(kernel, walker, &env, word_of(&command))? else {
         return Err(WalkErr::Err(Errno::ENOENT));
     };
     let args = arguments(alloc, command)?;
-    let program = run_from(
-        alloc,
-        kernel,
-        walker,
-        tags,
-        working,
-        args,
-        &env,
-        path.as_slice(),
-    )?;
+    let program = launcher.run_from(kernel, walker, args, &env, path.as_slice())?;
     let begun = begun(walker.table(), env, ids, working, program)?;
     Ok(begun)
 }

@@ -10,7 +10,7 @@ use crate::numbers::count_of;
 use pr_base::{Bytes, Errno, NoMemory, PeekFault, PeekKind, Peeks, WalkMode, components};
 use pt_args::below::kr_calls::{Request, path_of};
 use pt_args::below::pt_canon::{Canon, WalkErr, Walker};
-use pt_args::{Edit, Pokes, parted, walk_path};
+use pt_args::{Caller, Edit, Pokes, parted};
 use pt_bind::Tags;
 use std::alloc::Global;
 
@@ -43,66 +43,78 @@ pub fn link_answer<K: Peeks>(
     let Some(path) = path_of(request, 0) else {
         return Ok(None);
     };
-    match walk_path(alloc, kernel, walker, tags, pid, false, path) {
+    let caller = Caller { alloc, tags, pid };
+    match caller.walk_path(kernel, walker, false, path) {
         Ok(Some(reached)) => {
             let room = Room {
                 buf: *buf,
                 count: count_of(*size),
             };
-            read_answer(alloc, kernel, walker, tags, &reached.canon, room)
+            let reader = Reader { alloc, tags, room };
+            reader.read_answer(kernel, walker, &reached.canon)
         }
         Ok(None) | Err(WalkErr::Err(_)) => Ok(None),
         Err(WalkErr::NoMemory) => Err(NoMemory),
     }
 }
 
-/// The answer by where the path leads.
-fn read_answer<K: Peeks>(
+/// What readlinkat(2) is answered by: the tags of all processes, and where the bytes are put.
+#[derive(Clone, Copy)]
+struct Reader<'a> {
     alloc: Global,
-    kernel: &mut K,
-    walker: &mut Walker,
-    tags: &Tags,
-    canon: &Canon,
+    tags: &'a Tags,
     room: Room,
-) -> Result<Option<Edit>, NoMemory>
-    requires guest { IsWritten canon.now.guest }
-    requires host { IsTrue (is_absolute canon.now.host) }
-    ensures answer { IfOk result (λ edit. edit ≡ read_answer (texts_by walker.old (K.peeked kernel.old) tags.now) canon.now room) }
-    ensures walker { walker.new ≡ walker.old }
-    ensures kernel { OnlyPeeks K.peeked K.kept kernel.old kernel.new }
-{
-    match kernel.kind(canon.host.as_slice()) {
-        Ok(PeekKind::Jump) => jump_answer(alloc, kernel, walker, tags, canon, room),
-        Ok(PeekKind::Dir | PeekKind::File | PeekKind::Link) | Err(PeekFault::Err(_)) => Ok(None),
-        Err(PeekFault::NoMemory) => Err(NoMemory),
-    }
 }
 
-/// The answer for a link of the process directory, by where it leads from its directory.
-fn jump_answer<K: Peeks>(
-    alloc: Global,
-    kernel: &mut K,
-    walker: &mut Walker,
-    tags: &Tags,
-    canon: &Canon,
-    room: Room,
-) -> Result<Option<Edit>, NoMemory>
-    requires guest { IsWritten canon.now.guest }
-    requires host { IsTrue (is_absolute canon.now.host) }
-    ensures answer { IfOk result (λ edit. edit ≡ jump_answer (texts_by walker.old (K.peeked kernel.old) tags.now) canon.now room (names_of canon.now.guest)) }
-    ensures walker { walker.new ≡ walker.old }
-    ensures kernel { OnlyPeeks K.peeked K.kept kernel.old kernel.new }
-{
-    let Some((dir, name)) = parted(canon.guest.as_slice()) else {
-        return Ok(None);
-    };
-    match walker.canon(kernel, tags, dir, name, WalkMode::Look) {
-        Ok(led) => {
-            let edit = lead_answer(alloc, led.guest.as_slice(), room)?;
-            Ok(Some(edit))
+impl<'a> Reader<'a> {
+    /// The answer by where the path leads.
+    fn read_answer<K: Peeks>(
+        &self,
+        kernel: &mut K,
+        walker: &mut Walker,
+        canon: &Canon,
+    ) -> Result<Option<Edit>, NoMemory>
+        requires guest { IsWritten canon.now.guest }
+        requires host { IsTrue (is_absolute canon.now.host) }
+        ensures answer { let texts = texts_by walker.old (K.peeked kernel.old) self.now.tags.now in
+            IfOk result (λ edit. edit ≡ read_answer texts canon.now self.now.room) }
+        ensures walker { walker.new ≡ walker.old }
+        ensures kernel { OnlyPeeks K.peeked K.kept kernel.old kernel.new }
+    {
+        match kernel.kind(canon.host.as_slice()) {
+            Ok(PeekKind::Jump) => self.jump_answer(kernel, walker, canon),
+            Ok(PeekKind::Dir | PeekKind::File | PeekKind::Link) | Err(PeekFault::Err(_)) => Ok(
+                None,
+            ),
+            Err(PeekFault::NoMemory) => Err(NoMemory),
         }
-        Err(WalkErr::Err(_)) => nowhere_answer(kernel, canon.host.as_slice()),
-        Err(WalkErr::NoMemory) => Err(NoMemory),
+    }
+
+    /// The answer for a link of the process directory, by where it leads from its directory.
+    fn jump_answer<K: Peeks>(
+        &self,
+        kernel: &mut K,
+        walker: &mut Walker,
+        canon: &Canon,
+    ) -> Result<Option<Edit>, NoMemory>
+        requires guest { IsWritten canon.now.guest }
+        requires host { IsTrue (is_absolute canon.now.host) }
+        ensures answer { let texts = texts_by walker.old (K.peeked kernel.old) self.now.tags.now in
+            IfOk result (λ edit. edit ≡ jump_answer texts canon.now self.now.room (names_of canon.now.guest)) }
+        ensures walker { walker.new ≡ walker.old }
+        ensures kernel { OnlyPeeks K.peeked K.kept kernel.old kernel.new }
+    {
+        let Some((dir, name)) = parted(canon.guest.as_slice()) else {
+            return Ok(None);
+        };
+        match walker.canon(kernel, self.tags, dir, name, WalkMode::Look) {
+            Ok(led) => {
+                let edit = lead_answer(self.alloc, led.guest.as_slice(), self.room)?;
+                Ok(Some(edit))
+            }
+            Err(WalkErr::Err(_)) => nowhere_answer(kernel, canon.host.as_slice()),
+            Err(WalkErr::NoMemory) => Err(NoMemory),
+        }
     }
 }
 

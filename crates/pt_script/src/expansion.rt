@@ -10,7 +10,8 @@ ghost use Rattle.pt_args.specs.pt_canon.Leaving.{OnlyPeeks};
 
 use crate::arguments::{is_too_big, new_args};
 use crate::command::Command;
-use crate::program::{is_script, program_from};
+use crate::finder::Finder;
+use crate::program::is_script;
 use pr_base::{Bytes, Errno, Peeks, Texts};
 use pt_args::below::kr_calls::script_line;
 use pt_args::below::pt_bind::Tags;
@@ -56,7 +57,12 @@ pub fn expand<K: Peeks>(
 {
     let working = working_text(kernel, walker.table(), tags, pid)?;
     let working = bytes_of(&working);
-    expand_from(alloc, kernel, walker, tags, working, path, args, env_bytes)
+    let finder = Finder {
+        alloc,
+        tags,
+        working,
+    };
+    finder.expand_from(kernel, walker, path, args, env_bytes)
 }
 
 /// The bytes of a text, if there is one.
@@ -69,59 +75,97 @@ fn bytes_of(text: &Option<Bytes>) -> Option<&[u8]>
     }
 }
 
-/// The program that execve(2) runs in the end, as `expand` finds it, from a working directory, by its guest text if it has one.
-pub fn expand_from<K: Peeks>(
-    alloc: Global,
-    kernel: &mut K,
-    walker: &mut Walker,
-    tags: &Tags,
-    working: Option<&[u8]>,
-    path: &[u8],
-    args: Texts,
-    env_bytes: u32,
-) -> Result<Expanded, WalkErr>
-    requires { IfSome (option_copied working) IsWritten }
-    ensures answer { IsAnswer (expanded_from (texts_by walker.old (K.peeked kernel.old) tags.now) (option_copied working.entry) env_bytes path.now args) result }
-    ensures walker { walker.new ≡ walker.old }
-    ensures kernel { OnlyPeeks K.peeked K.kept kernel.old kernel.new }
-{
-    let program = program_from(alloc, kernel, walker, tags, working, path)?;
-    let path = Bytes::copy(alloc, path)?;
-    let command = Command {
-        program,
-        path,
-        args,
-    };
-    end_of(alloc, kernel, walker, tags, working, command, env_bytes)
-}
+impl<'t, 'w> Finder<'t, 'w> {
+    /// The program that execve(2) runs in the end, as `expand` finds it, from the working directory.
+    pub fn expand_from<K: Peeks>(
+        &self,
+        kernel: &mut K,
+        walker: &mut Walker,
+        path: &[u8],
+        args: Texts,
+        env_bytes: u32,
+    ) -> Result<Expanded, WalkErr>
+        requires { IfSome (option_copied self.now.working) IsWritten }
+        ensures answer { let texts = texts_by walker.old (K.peeked kernel.old) self.now.tags.now in
+            IsAnswer (expanded_from texts (option_copied self.now.working) env_bytes path.now args) result }
+        ensures walker { walker.new ≡ walker.old }
+        ensures kernel { OnlyPeeks K.peeked K.kept kernel.old kernel.new }
+    {
+        let program = self.program_from(kernel, walker, path)?;
+        let path = Bytes::copy(self.alloc, path)?;
+        let command = Command {
+            program,
+            path,
+            args,
+        };
+        self.end_of(kernel, walker, command, env_bytes)
+    }
 
-/// What a command comes to.
-fn end_of<K: Peeks>(
-    alloc: Global,
-    kernel: &mut K,
-    walker: &mut Walker,
-    tags: &Tags,
-    working: Option<&[u8]>,
-    command: Command,
-    env_bytes: u32,
-) -> Result<Expanded, WalkErr>
-    requires working { IfSome (option_copied working) IsWritten }
-    requires short { length command.program.head ≤ 256 }
-    ensures answer { IsAnswer (shown_result (ends_of (texts_by walker.old (K.peeked kernel.old) tags.now) (option_copied working.entry) env_bytes most_scripts command)) result }
-    ensures walker { walker.new ≡ walker.old }
-    ensures kernel { OnlyPeeks K.peeked K.kept kernel.old kernel.new }
-{
-    let mut command = command;
-    let mut scripts = 0;
-    'scripts: loop {
-        if !is_script(command.program.head.as_slice()) {
-            return Ok(ended(command, scripts));
+    /// What a command comes to.
+    fn end_of<K: Peeks>(
+        &self,
+        kernel: &mut K,
+        walker: &mut Walker,
+        command: Command,
+        env_bytes: u32,
+    ) -> Result<Expanded, WalkErr>
+        requires working { IfSome (option_copied self.now.working) IsWritten }
+        requires short { length command.program.head ≤ 256 }
+        ensures answer { let texts = texts_by walker.old (K.peeked kernel.old) self.now.tags.now in
+            IsAnswer (shown_result (ends_of texts (option_copied self.now.working) env_bytes most_scripts command)) result }
+        ensures walker { walker.new ≡ walker.old }
+        ensures kernel { OnlyPeeks K.peeked K.kept kernel.old kernel.new }
+    {
+        let mut command = command;
+        let mut scripts = 0;
+        'scripts: loop {
+            if !is_script(command.program.head.as_slice()) {
+                return Ok(ended(command, scripts));
+            }
+            if scripts == MOST_SCRIPTS {
+                return Err(WalkErr::Err(Errno::ELOOP));
+            }
+            command = self.interpreted(kernel, walker, command, env_bytes)?;
+            scripts += 1;
         }
-        if scripts == MOST_SCRIPTS {
-            return Err(WalkErr::Err(Errno::ELOOP));
+    }
+
+    /// The interpreter that a script's line names, with its arguments.
+    fn interpreted<K: Peeks>(
+        &self,
+        kernel: &mut K,
+        walker: &mut Walker,
+        script: Command,
+        env_bytes: u32,
+    ) -> Result<Command, WalkErr>
+        requires working { IfSome (option_copied self.now.working) IsWritten }
+        requires short { length script.program.head ≤ 256 }
+        requires script { BeginsScript script.program.head }
+        ensures answer { let texts = texts_by walker.old (K.peeked kernel.old) self.now.tags.now in
+            IsAnswer (interpreted texts (option_copied self.now.working) env_bytes script) result }
+        ensures short { IfOk result (λ next. length next.program.head ≤ 256) }
+        ensures walker { walker.new ≡ walker.old }
+        ensures kernel { OnlyPeeks K.peeked K.kept kernel.old kernel.new }
+    {
+        let Command {
+            program: file,
+            path,
+            args,
+        } = script;
+        let Some((interpreter, argument)) = script_line(file.head.as_slice()) else {
+            return Err(WalkErr::Err(Errno::ENOEXEC));
+        };
+        let program = self.program_from(kernel, walker, interpreter)?;
+        let args = new_args(self.alloc, interpreter, argument, path, args)?;
+        if is_too_big(&args, env_bytes) {
+            return Err(WalkErr::Err(Errno::E2BIG));
         }
-        command = interpreted(alloc, kernel, walker, tags, working, command, env_bytes)?;
-        scripts += 1;
+        let path = Bytes::copy(self.alloc, interpreter)?;
+        Ok(Command {
+            program,
+            path,
+            args,
+        })
     }
 }
 
@@ -136,43 +180,4 @@ fn ended(command: Command, scripts: u8) -> Expanded
         args,
         scripts,
     }
-}
-
-/// The interpreter that a script's line names, with its arguments.
-fn interpreted<K: Peeks>(
-    alloc: Global,
-    kernel: &mut K,
-    walker: &mut Walker,
-    tags: &Tags,
-    working: Option<&[u8]>,
-    script: Command,
-    env_bytes: u32,
-) -> Result<Command, WalkErr>
-    requires working { IfSome (option_copied working) IsWritten }
-    requires short { length script.program.head ≤ 256 }
-    requires script { BeginsScript script.program.head }
-    ensures answer { IsAnswer (interpreted (texts_by walker.old (K.peeked kernel.old) tags.now) (option_copied working.entry) env_bytes script) result }
-    ensures short { IfOk result (λ next. length next.program.head ≤ 256) }
-    ensures walker { walker.new ≡ walker.old }
-    ensures kernel { OnlyPeeks K.peeked K.kept kernel.old kernel.new }
-{
-    let Command {
-        program: file,
-        path,
-        args,
-    } = script;
-    let Some((interpreter, argument)) = script_line(file.head.as_slice()) else {
-        return Err(WalkErr::Err(Errno::ENOEXEC));
-    };
-    let program = program_from(alloc, kernel, walker, tags, working, interpreter)?;
-    let args = new_args(alloc, interpreter, argument, path, args)?;
-    if is_too_big(&args, env_bytes) {
-        return Err(WalkErr::Err(Errno::E2BIG));
-    }
-    let path = Bytes::copy(alloc, interpreter)?;
-    Ok(Command {
-        program,
-        path,
-        args,
-    })
 }

@@ -23,9 +23,11 @@
 pub mod arguments;
 mod command;
 pub mod expansion;
+pub mod finder;
 pub mod laws;
 pub mod program;
 
 pub use arguments::{bytes_within, is_too_big};
-pub use expansion::{Expanded, expand, expand_from};
-pub use program::{Program, program_from};
+pub use expansion::{Expanded, expand};
+pub use finder::Finder;
+pub use program::Program;

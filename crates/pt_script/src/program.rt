@@ -9,8 +9,8 @@ ghost use Rattle.pt_args.specs.kr_calls.Scripts.{BeginsScript};
 ghost use Rattle.pt_script.specs.Programs.{base_from, canon_from, program_from, program_in};
 ghost use Rattle.pt_args.specs.pt_canon.Leaving.{OnlyPeeks};
 
+use crate::finder::Finder;
 use pr_base::{Bytes, Errno, Peeks, WalkMode, components};
-use pt_args::below::pt_bind::Tags;
 use pt_args::below::pt_canon::laws::answers_are_of_their_texts;
 use pt_args::below::pt_canon::{Canon, WalkErr, Walker};
 use std::alloc::Global;
@@ -32,25 +32,46 @@ pub struct Program {
     pub head: Bytes,
 }
 
-/// The program at a guest path, a last link followed: ENOENT where the path is relative and there is no working directory
-/// with a guest text, then the errors of the walk, and EACCES where it leads to no regular file that the user may execute.
-pub fn program_from<K: Peeks>(
-    alloc: Global,
-    kernel: &mut K,
-    walker: &mut Walker,
-    tags: &Tags,
-    working: Option<&[u8]>,
-    path: &[u8],
-) -> Result<Program, WalkErr>
-    requires { IfSome (option_copied working) IsWritten }
-    ensures answer { IsAnswer (program_from (texts_by walker.old (K.peeked kernel.old) tags.now) (option_copied working.entry) path.now) result }
-    ensures short { IfOk result (λ program. length program.head ≤ 256) }
-    ensures walker { walker.new ≡ walker.old }
-    ensures kernel { OnlyPeeks K.peeked K.kept kernel.old kernel.new }
-{
-    let base = base_from(alloc, working, path)?;
-    let Canon { host, index, .. } = canon_from(kernel, walker, tags, path, base.as_slice())?;
-    program_in(kernel, host, index)
+impl<'t, 'w> Finder<'t, 'w> {
+    /// The program at a guest path, a last link followed: ENOENT where the path is relative and there is no working directory
+    /// with a guest text, then the errors of the walk, and EACCES where it leads to no regular file that the user may execute.
+    pub fn program_from<K: Peeks>(
+        &self,
+        kernel: &mut K,
+        walker: &mut Walker,
+        path: &[u8],
+    ) -> Result<Program, WalkErr>
+        requires { IfSome (option_copied self.now.working) IsWritten }
+        ensures answer { let texts = texts_by walker.old (K.peeked kernel.old) self.now.tags.now in
+            IsAnswer (program_from texts (option_copied self.now.working) path.now) result }
+        ensures short { IfOk result (λ program. length program.head ≤ 256) }
+        ensures walker { walker.new ≡ walker.old }
+        ensures kernel { OnlyPeeks K.peeked K.kept kernel.old kernel.new }
+    {
+        let base = base_from(self.alloc, self.working, path)?;
+        let Canon { host, index, .. } = self.canon_from(kernel, walker, path, base.as_slice())?;
+        program_in(kernel, host, index)
+    }
+
+    /// Where a path leads from a guest text.
+    fn canon_from<K: Peeks>(
+        &self,
+        kernel: &mut K,
+        walker: &mut Walker,
+        path: &[u8],
+        base: &[u8],
+    ) -> Result<Canon, WalkErr>
+        requires { IsWritten base.now }
+        ensures answer { let texts = texts_by walker.old (K.peeked kernel.old) self.now.tags.now in
+            IsAnswer (canon_from texts path.now base.now) result }
+        ensures host { IfOk result (λ canon. IsTrue (is_absolute canon.host)) }
+        ensures walker { walker.new ≡ walker.old }
+        ensures kernel { OnlyPeeks K.peeked K.kept kernel.old kernel.new }
+    {
+        answers_are_of_their_texts();
+        let canon = walker.canon(kernel, self.tags, base, path, WalkMode::Look)?;
+        Ok(canon)
+    }
 }
 
 /// The guest text from which a path is taken: the root, or the working directory.
@@ -70,25 +91,6 @@ fn base_from(alloc: Global, working: Option<&[u8]>, path: &[u8]) -> Result<Bytes
         }
         None => Err(WalkErr::Err(Errno::ENOENT)),
     }
-}
-
-/// Where a path leads from a guest text.
-fn canon_from<K: Peeks>(
-    kernel: &mut K,
-    walker: &mut Walker,
-    tags: &Tags,
-    path: &[u8],
-    base: &[u8],
-) -> Result<Canon, WalkErr>
-    requires { IsWritten base.now }
-    ensures answer { IsAnswer (canon_from (texts_by walker.old (K.peeked kernel.old) tags.now) path.now base.now) result }
-    ensures host { IfOk result (λ canon. IsTrue (is_absolute canon.host)) }
-    ensures walker { walker.new ≡ walker.old }
-    ensures kernel { OnlyPeeks K.peeked K.kept kernel.old kernel.new }
-{
-    answers_are_of_their_texts();
-    let canon = walker.canon(kernel, tags, base, path, WalkMode::Look)?;
-    Ok(canon)
 }
 
 /// The program that stands at a host text, which belongs to the binding of this index.

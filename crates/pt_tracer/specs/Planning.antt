@@ -15,6 +15,7 @@ use Rattle.pt_results.specs.kr_calls.declared.request.Request.TheVariants as cal
 use Rattle.pt_faker.specs.kr_model.Peeks.{peeked_of}
 use Rattle.pt_faker.specs.Stopping.{memory_at, register_at, Stopped, with_memory}
 use Rattle.pt_results.specs.pt_args.Edits.{edit_of}
+use Rattle.pt_results.specs.pt_args.Shelving.{shelf_size}
 use Rattle.pt_results.specs.pt_args.Walks.{walked}
 use Rattle.pt_results.specs.pt_args.declared.edit.Edit.{Edit}
 use Rattle.pt_results.specs.pt_args.declared.edit.Edit.TheVariants.{Cancel, Emulate, Pass, Swap}
@@ -38,12 +39,12 @@ texts_at bindings tags t = record { bindings = bindings; peeked = peeked_of t.st
 abbrev pub stack_at : Stopped → ℕ
 stack_at t = register_at t 2
 
--- the 65,536 bytes below the stack pointer, each of which may be read and written
+-- whether there is one: each of its bytes may be read and written
 abbrev pub has_shelf : Stopped → Bool
 has_shelf t =
-    not (nat_lt (stack_at t) 65536)
-    && allows_all (memory_at t).pages (stack_at t - 65536) 65536 Read
-    && allows_all (memory_at t).pages (stack_at t - 65536) 65536 Write
+    not (nat_lt (stack_at t) shelf_size)
+    && allows_all (memory_at t).pages (stack_at t - shelf_size) shelf_size Read
+    && allows_all (memory_at t).pages (stack_at t - shelf_size) shelf_size Write
 
 -- ---- where the first path leads
 

@@ -3,7 +3,8 @@
 use Rattle.std.specs.Prelude.{ℕ, ◌+◌, ◌-◌, ◌*◌, nat_lt, List, [], ◌∷◌, ◌++◌, length, take, if◌then◌else◌}
 use Rattle.std.specs.Int.{to_le_bytes, w64}
 use Rattle.pr_base.specs.declared.errno.Errno.TheVariants.{E2BIG, ENAMETOOLONG}
-use Rattle.pt_results.specs.pt_args.Shelving.{address_below, with_item, with_zero}
+use Rattle.pt_results.specs.pt_args.Edits.{longest_path}
+use Rattle.pt_results.specs.pt_args.Shelving.{address_below, shelf_size, with_item, with_zero}
 use Rattle.pt_results.specs.pt_args.declared.edit.Edit.{Edit}
 use Rattle.pt_results.specs.pt_args.declared.edit.Edit.TheVariants.{Cancel, Swap}
 use Rattle.pt_results.specs.pt_args.declared.shelf.Shelf.{Shelf}
@@ -50,6 +51,6 @@ shelved_script sp host texts kept =
 -- ENAMETOOLONG of a host text that is no path, and E2BIG of more than the shelf holds
 abbrev pub script_edit : ℕ → List ℕ → List (List ℕ) → List ℕ → Edit
 script_edit sp host texts kept =
-    if nat_lt 4095 (length host) then Cancel ENAMETOOLONG
-    else if nat_lt 65536 (script_room host texts kept) then Cancel E2BIG
+    if nat_lt longest_path (length host) then Cancel ENAMETOOLONG
+    else if nat_lt shelf_size (script_room host texts kept) then Cancel E2BIG
     else shelved_script sp host texts kept

@@ -28,5 +28,5 @@ pub fn come_and_go()
 
 /// What the tracer does at the stops, and as processes come and go, are the definition's functions: so turns and runs with it are.
 pub fn tracer_is_its_definition()
-    ensures { IsGraph (watching ⟦<Tracer as Stops>⟧.enters ⟦<Tracer as Stops>⟧.exits ⟦<Tracer as Stops>⟧.bears ⟦<Tracer as Stops>⟧.forgets) tracer }
+    ensures { IsGraph (λ x. x) (watching ⟦<Tracer as Stops>⟧.enters ⟦<Tracer as Stops>⟧.exits ⟦<Tracer as Stops>⟧.bears ⟦<Tracer as Stops>⟧.forgets) tracer }
 {}

@@ -35,51 +35,118 @@ fn has_shelf<T: Tracee>(t: &T) -> bool
     }
 }
 
-/// A call whose guest paths become host paths, and where the first of them led.
-fn rewritten<T: Tracee>(
-    alloc: Global,
-    t: &mut T,
-    walker: &mut Walker,
-    tags: &Tags,
-    request: &Request,
-) -> Result<Rewritten, NoMemory>
-    ensures edit { IfOk result (λ r. r.edit ≡ rewritten (texts_at (rows_of walker.old) tags.now (T.stopped t.old)) (T.stopped t.old) request.now) }
-    ensures first { IfOk result (λ r. r.first ≡ first_of (texts_at (rows_of walker.old) tags.now (T.stopped t.old)) (T.stopped t.old).pid request.now) }
-    ensures room { IfOk result (λ r. IsTrue (is_swap r.edit) → 65536 ≤ stack_at (T.stopped t.old)) }
-    ensures walker { walker.new ≡ walker.old }
-    ensures process { OnlyPeeks T.stopped T.around t.old t.new }
-{
-    // For the proof alone: the process lives.
-    let _pid = t.pid();
-    // The shelf is looked at only where there is a path to put on it.
-    match path_of(request, 0) {
-        Some(_path) => rewritten_along(alloc, t, walker, tags, request),
-        None => Ok(Rewritten {
-            edit: Edit::Pass,
-            first: None,
-        }),
-    }
+/// What a call is planned by: the call, and the tags of all processes.
+#[derive(Clone, Copy)]
+pub(crate) struct Planner<'a> {
+    pub(crate) alloc: Global,
+    pub(crate) tags: &'a Tags,
+    pub(crate) request: &'a Request,
 }
 
-/// A call that has a path: its guest paths become host paths, and it is told where the first of them led.
-fn rewritten_along<T: Tracee>(
-    alloc: Global,
-    t: &mut T,
-    walker: &mut Walker,
-    tags: &Tags,
-    request: &Request,
-) -> Result<Rewritten, NoMemory>
-    ensures edit { IfOk result (λ r. r.edit ≡ rewritten (texts_at (rows_of walker.old) tags.now (T.stopped t.old)) (T.stopped t.old) request.now) }
-    ensures first { IfOk result (λ r. r.first ≡ first_of (texts_at (rows_of walker.old) tags.now (T.stopped t.old)) (T.stopped t.old).pid request.now) }
-    ensures room { IfOk result (λ r. IsTrue (is_swap r.edit) → 65536 ≤ stack_at (T.stopped t.old)) }
-    ensures walker { walker.new ≡ walker.old }
-    ensures process { OnlyPeeks T.stopped T.around t.old t.new }
-{
-    edits_keep_to_paths();
-    let pid = t.pid();
-    let sp = t.reg(STACK);
-    let shelf = has_shelf(t);
-    rewrite_along(alloc, t, walker, tags, pid, sp, shelf, request)
+impl<'a> Planner<'a> {
+    /// What becomes of a call. Of execve(2) both lists are read before that is known. After want of memory the process may only be dropped.
+    pub(crate) fn plan<T: Tracee>(&self, t: &mut T, walker: &mut Walker) -> Result<Plan, NoMemory>
+        ensures plan { IfOk result (λ plan. (plan, T.stopped t.new) ≡ planned (rows_of walker.old) self.now.tags.now (T.stopped t.old) self.now.request.now) }
+        ensures walker { walker.new ≡ walker.old }
+        ensures edits { OnlyEdits T.stopped T.around t.old t.new }
+    {
+        // For the proof alone: the process lives.
+        let _pid = t.pid();
+        let Some(lists) = list_addresses(self.request) else {
+            return self.plan_for(t, walker);
+        };
+        let Some(path) = path_of(self.request, 0) else {
+            return self.plan_for(t, walker);
+        };
+        let planner = *self;
+        let execve = ExecvePlanner {
+            planner,
+            path: path.text,
+            lists,
+        };
+        execve.plan(t, walker)
+    }
+
+    /// What becomes of any call but execve(2).
+    fn plan_for<T: Tracee>(&self, t: &mut T, walker: &mut Walker) -> Result<Plan, NoMemory>
+        ensures plan { IfOk result (λ plan. plan ≡ plan_for (texts_at (rows_of walker.old) self.now.tags.now (T.stopped t.old)) (T.stopped t.old) self.now.request.now) }
+        ensures walker { walker.new ≡ walker.old }
+        ensures process { OnlyPeeks T.stopped T.around t.old t.new }
+    {
+        if let Some(edit) = self.answered(t, walker)? {
+            return Ok(Plan { edit, led: NOWHERE });
+        }
+        let Rewritten { edit, first } = self.rewritten(t, walker)?;
+        let led = led_at(self.request, &first);
+        Ok(Plan { edit, led })
+    }
+
+    /// The answer of getcwd(2), or of readlinkat(2) of a link of the process directory.
+    fn answered<T: Tracee>(&self, t: &mut T, walker: &mut Walker) -> Result<Option<Edit>, NoMemory>
+        ensures edit { IfOk result (λ edit. edit ≡ answered (texts_at (rows_of walker.old) self.now.tags.now (T.stopped t.old)) (T.stopped t.old) self.now.request.now) }
+        ensures walker { walker.new ≡ walker.old }
+        ensures process { OnlyPeeks T.stopped T.around t.old t.new }
+    {
+        let pid = t.pid();
+        match self.request {
+            Request::Getcwd { buf, size } => {
+                let edit = cwd_answer(self.alloc, t, walker, self.tags, pid, *size, *buf)?;
+                Ok(Some(edit))
+            }
+            Request::Readlinkat { .. } => {
+                link_answer(self.alloc, t, walker, self.tags, pid, self.request)
+            }
+            _ => Ok(None),
+        }
+    }
+
+    /// A call whose guest paths become host paths, and where the first of them led.
+    fn rewritten<T: Tracee>(&self, t: &mut T, walker: &mut Walker) -> Result<Rewritten, NoMemory>
+        ensures edit { IfOk result (λ r. r.edit ≡ rewritten (texts_at (rows_of walker.old) self.now.tags.now (T.stopped t.old)) (T.stopped t.old) self.now.request.now) }
+        ensures first { IfOk result (λ r. r.first ≡ first_of (texts_at (rows_of walker.old) self.now.tags.now (T.stopped t.old)) (T.stopped t.old).pid self.now.request.now) }
+        ensures room { IfOk result (λ r. IsTrue (is_swap r.edit) → 65536 ≤ stack_at (T.stopped t.old)) }
+        ensures walker { walker.new ≡ walker.old }
+        ensures process { OnlyPeeks T.stopped T.around t.old t.new }
+    {
+        // For the proof alone: the process lives.
+        let _pid = t.pid();
+        // The shelf is looked at only where there is a path to put on it.
+        match path_of(self.request, 0) {
+            Some(_path) => self.rewritten_along(t, walker),
+            None => Ok(Rewritten {
+                edit: Edit::Pass,
+                first: None,
+            }),
+        }
+    }
+
+    /// A call that has a path: its guest paths become host paths, and it is told where the first of them led.
+    fn rewritten_along<T: Tracee>(
+        &self,
+        t: &mut T,
+        walker: &mut Walker,
+    ) -> Result<Rewritten, NoMemory>
+        ensures edit { IfOk result (λ r. r.edit ≡ rewritten (texts_at (rows_of walker.old) self.now.tags.now (T.stopped t.old)) (T.stopped t.old) self.now.request.now) }
+        ensures first { IfOk result (λ r. r.first ≡ first_of (texts_at (rows_of walker.old) self.now.tags.now (T.stopped t.old)) (T.stopped t.old).pid self.now.request.now) }
+        ensures room { IfOk result (λ r. IsTrue (is_swap r.edit) → 65536 ≤ stack_at (T.stopped t.old)) }
+        ensures walker { walker.new ≡ walker.old }
+        ensures process { OnlyPeeks T.stopped T.around t.old t.new }
+    {
+        edits_keep_to_paths();
+        let pid = t.pid();
+        let sp = t.reg(STACK);
+        let shelf = has_shelf(t);
+        rewrite_along(
+            self.alloc,
+            t,
+            walker,
+            self.tags,
+            pid,
+            sp,
+            shelf,
+            self.request,
+        )
+    }
 }
 
 /// Where the first path of a call leads, if that counts.
@@ -130,97 +197,124 @@ fn list_addresses(request: &Request) -> Option<ListAddresses>
     }
 }
 
-/// What becomes of a call. Of execve(2) both lists are read before that is known. After want of memory the process may only be dropped.
-pub(crate) fn plan<T: Tracee>(
-    alloc: Global,
-    t: &mut T,
-    walker: &mut Walker,
-    tags: &Tags,
-    request: &Request,
-) -> Result<Plan, NoMemory>
-    ensures plan { IfOk result (λ plan. (plan, T.stopped t.new) ≡ planned (rows_of walker.old) tags.now (T.stopped t.old) request.now) }
-    ensures walker { walker.new ≡ walker.old }
-    ensures edits { OnlyEdits T.stopped T.around t.old t.new }
-{
-    // For the proof alone: the process lives.
-    let _pid = t.pid();
-    let Some(lists) = list_addresses(request) else {
-        return plan_for(alloc, t, walker, tags, request);
-    };
-    let Some(path) = path_of(request, 0) else {
-        return plan_for(alloc, t, walker, tags, request);
-    };
-    plan_execve(alloc, t, walker, tags, request, path.text, lists)
-}
-
-/// What becomes of any call but execve(2).
-fn plan_for<T: Tracee>(
-    alloc: Global,
-    t: &mut T,
-    walker: &mut Walker,
-    tags: &Tags,
-    request: &Request,
-) -> Result<Plan, NoMemory>
-    ensures plan { IfOk result (λ plan. plan ≡ plan_for (texts_at (rows_of walker.old) tags.now (T.stopped t.old)) (T.stopped t.old) request.now) }
-    ensures walker { walker.new ≡ walker.old }
-    ensures process { OnlyPeeks T.stopped T.around t.old t.new }
-{
-    if let Some(edit) = answered(alloc, t, walker, tags, request)? {
-        return Ok(Plan { edit, led: NOWHERE });
-    }
-    let Rewritten { edit, first } = rewritten(alloc, t, walker, tags, request)?;
-    let led = led_at(request, &first);
-    Ok(Plan { edit, led })
-}
-
-/// The answer of getcwd(2), or of readlinkat(2) of a link of the process directory.
-fn answered<T: Tracee>(
-    alloc: Global,
-    t: &mut T,
-    walker: &mut Walker,
-    tags: &Tags,
-    request: &Request,
-) -> Result<Option<Edit>, NoMemory>
-    ensures edit { IfOk result (λ edit. edit ≡ answered (texts_at (rows_of walker.old) tags.now (T.stopped t.old)) (T.stopped t.old) request.now) }
-    ensures walker { walker.new ≡ walker.old }
-    ensures process { OnlyPeeks T.stopped T.around t.old t.new }
-{
-    let pid = t.pid();
-    match request {
-        Request::Getcwd { buf, size } => {
-            let edit = cwd_answer(alloc, t, walker, tags, pid, *size, *buf)?;
-            Ok(Some(edit))
-        }
-        Request::Readlinkat { .. } => link_answer(alloc, t, walker, tags, pid, request),
-        _ => Ok(None),
-    }
-}
-
-/// What becomes of execve(2): where its path can be swapped its lists are read, and its scripts are expanded.
-fn plan_execve<T: Tracee>(
-    alloc: Global,
-    t: &mut T,
-    walker: &mut Walker,
-    tags: &Tags,
-    request: &Request,
-    path: &[u8],
+/// What execve(2) is planned by: the call, its path, and where its lists stand.
+#[derive(Clone, Copy)]
+struct ExecvePlanner<'a> {
+    planner: Planner<'a>,
+    path: &'a [u8],
     lists: ListAddresses,
-) -> Result<Plan, NoMemory>
-    ensures plan { IfOk result (λ plan. (plan, T.stopped t.new) ≡ execve_plan (rows_of walker.old) tags.now (T.stopped t.old) request.now path.now lists) }
-    ensures walker { walker.new ≡ walker.old }
-    ensures edits { OnlyEdits T.stopped T.around t.old t.new }
-{
-    // For the proof alone: the process lives.
-    let _pid = t.pid();
-    let Rewritten { edit, first } = rewritten(alloc, t, walker, tags, request)?;
-    if !is_swap(&edit) {
-        return Ok(Plan { edit, led: NOWHERE });
+}
+
+impl<'a> ExecvePlanner<'a> {
+    /// What becomes of execve(2): where its path can be swapped its lists are read, and its scripts are expanded.
+    fn plan<T: Tracee>(&self, t: &mut T, walker: &mut Walker) -> Result<Plan, NoMemory>
+        ensures plan { let planner = self.now.planner in
+            IfOk result (λ plan. (plan, T.stopped t.new) ≡ execve_plan (rows_of walker.old) planner.tags.now (T.stopped t.old) planner.request.now self.now.path.now self.now.lists) }
+        ensures walker { walker.new ≡ walker.old }
+        ensures edits { OnlyEdits T.stopped T.around t.old t.new }
+    {
+        // For the proof alone: the process lives.
+        let _pid = t.pid();
+        let Rewritten { edit, first } = self.planner.rewritten(t, walker)?;
+        if !is_swap(&edit) {
+            return Ok(Plan { edit, led: NOWHERE });
+        }
+        let led = led_at(self.planner.request, &first);
+        match read_lists(self.planner.alloc, t, self.lists.args, self.lists.env) {
+            Ok(handed) => self.expand_with(t, walker, edit, handed),
+            Err(CallFault::Err(_)) => Ok(Plan { edit, led }),
+            Err(CallFault::NoMemory) => Err(NoMemory),
+        }
     }
-    let led = led_at(request, &first);
-    match read_lists(alloc, t, lists.args, lists.env) {
-        Ok(handed) => expand_with(alloc, t, walker, tags, edit, path, lists.args, handed),
-        Err(CallFault::Err(_)) => Ok(Plan { edit, led }),
-        Err(CallFault::NoMemory) => Err(NoMemory),
+
+    /// What becomes of a program, once its lists were read: a script is shown as the program that runs it.
+    fn expand_with<T: Tracee>(
+        &self,
+        t: &mut T,
+        walker: &mut Walker,
+        edit: Edit,
+        handed: Handed,
+    ) -> Result<Plan, NoMemory>
+        requires room { 65536 ≤ stack_at (T.stopped t.old) }
+        requires few { length handed.args ≤ 4096 }
+        ensures plan { let tags = self.now.planner.tags.now in
+            IfOk result (λ plan. (plan, T.stopped t.new) ≡ expand_with (rows_of walker.old) tags edit self.now.path.now self.now.lists.args handed (T.stopped t.old)) }
+        ensures walker { walker.new ≡ walker.old }
+        ensures edits { OnlyEdits T.stopped T.around t.old t.new }
+    {
+        // For the proof alone: the process lives.
+        let _pid = t.pid();
+        let kept = handed.args.len().saturating_sub(1);
+        match self.expanded(t, walker, handed) {
+            Ok(program) if program.scripts == 0 => Ok(Plan {
+                edit,
+                led: led_in(program.index),
+            }),
+            Ok(program) => self.plan_script(t, kept, program),
+            Err(WalkErr::Err(errno)) => Ok(cancelled(errno)),
+            Err(WalkErr::NoMemory) => Err(NoMemory),
+        }
+    }
+
+    /// The program that runs in the end, and its arguments.
+    fn expanded<T: Tracee>(
+        &self,
+        t: &mut T,
+        walker: &mut Walker,
+        handed: Handed,
+    ) -> Result<Expanded, WalkErr>
+        ensures answer { let texts = texts_at (rows_of walker.old) self.now.planner.tags.now (T.stopped t.old) in
+            IsAnswer (expanded_at texts (T.stopped t.old).pid handed.env_bytes self.now.path.now handed.args) result }
+        ensures walker { walker.new ≡ walker.old }
+        ensures process { OnlyPeeks T.stopped T.around t.old t.new }
+    {
+        let pid = t.pid();
+        let Handed { args, env_bytes } = handed;
+        let planner = self.planner;
+        expand(
+            planner.alloc,
+            t,
+            walker,
+            planner.tags,
+            pid,
+            self.path,
+            args,
+            env_bytes,
+        )
+    }
+
+    /// What becomes of a script, where `kept` of its caller's arguments are kept.
+    fn plan_script<T: Tracee>(
+        &self,
+        t: &mut T,
+        kept: usize,
+        program: Expanded,
+    ) -> Result<Plan, NoMemory>
+        requires room { 65536 ≤ stack_at (T.stopped t.old) }
+        requires few { kept ≤ 4096 }
+        ensures plan { IfOk result (λ plan. (plan, T.stopped t.new) ≡ script_plan (T.stopped t.old) self.now.lists.args kept program) }
+        ensures edits { OnlyEdits T.stopped T.around t.old t.new }
+    {
+        // For the proof alone: the process lives.
+        let _pid = t.pid();
+        let alloc = self.planner.alloc;
+        let sp = t.reg(STACK);
+        let addresses = match addresses_behind(alloc, t, self.lists.args, kept) {
+            Ok(addresses) => addresses,
+            Err(CallFault::Err(errno)) => return Ok(cancelled(errno)),
+            Err(CallFault::NoMemory) => return Err(NoMemory),
+        };
+        let Expanded {
+            host,
+            index,
+            args,
+            ..
+        } = program;
+        let edit = script_edit(alloc, sp, host, args, kept, addresses.as_slice())?;
+        Ok(Plan {
+            edit,
+            led: led_in(index),
+        })
     }
 }
 
@@ -232,55 +326,6 @@ fn is_swap(edit: &Edit) -> bool
         Edit::Swap { .. } => true,
         Edit::Pass | Edit::Cancel(_) | Edit::Emulate { .. } => false,
     }
-}
-
-/// What becomes of a program, once its lists were read: a script is shown as the program that runs it.
-fn expand_with<T: Tracee>(
-    alloc: Global,
-    t: &mut T,
-    walker: &mut Walker,
-    tags: &Tags,
-    edit: Edit,
-    path: &[u8],
-    args: u64,
-    handed: Handed,
-) -> Result<Plan, NoMemory>
-    requires room { 65536 ≤ stack_at (T.stopped t.old) }
-    requires few { length handed.args ≤ 4096 }
-    ensures plan { IfOk result (λ plan. (plan, T.stopped t.new) ≡ expand_with (rows_of walker.old) tags.now edit path.now args handed (T.stopped t.old)) }
-    ensures walker { walker.new ≡ walker.old }
-    ensures edits { OnlyEdits T.stopped T.around t.old t.new }
-{
-    // For the proof alone: the process lives.
-    let _pid = t.pid();
-    let kept = handed.args.len().saturating_sub(1);
-    match expanded(alloc, t, walker, tags, path, handed) {
-        Ok(program) if program.scripts == 0 => Ok(Plan {
-            edit,
-            led: led_in(program.index),
-        }),
-        Ok(program) => plan_script(alloc, t, args, kept, program),
-        Err(WalkErr::Err(errno)) => Ok(cancelled(errno)),
-        Err(WalkErr::NoMemory) => Err(NoMemory),
-    }
-}
-
-/// The program that runs in the end, and its arguments.
-fn expanded<T: Tracee>(
-    alloc: Global,
-    t: &mut T,
-    walker: &mut Walker,
-    tags: &Tags,
-    path: &[u8],
-    handed: Handed,
-) -> Result<Expanded, WalkErr>
-    ensures answer { IsAnswer (expanded_at (texts_at (rows_of walker.old) tags.now (T.stopped t.old)) (T.stopped t.old).pid handed.env_bytes path.now handed.args) result }
-    ensures walker { walker.new ≡ walker.old }
-    ensures process { OnlyPeeks T.stopped T.around t.old t.new }
-{
-    let pid = t.pid();
-    let Handed { args, env_bytes } = handed;
-    expand(alloc, t, walker, tags, pid, path, args, env_bytes)
 }
 
 /// A program that belongs to a binding of this index.
@@ -301,38 +346,4 @@ fn cancelled(errno: Errno) -> Plan
         edit: Edit::Cancel(errno),
         led: NOWHERE,
     }
-}
-
-/// What becomes of a script, where `kept` of its caller's arguments are kept.
-fn plan_script<T: Tracee>(
-    alloc: Global,
-    t: &mut T,
-    args: u64,
-    kept: usize,
-    program: Expanded,
-) -> Result<Plan, NoMemory>
-    requires room { 65536 ≤ stack_at (T.stopped t.old) }
-    requires few { kept ≤ 4096 }
-    ensures plan { IfOk result (λ plan. (plan, T.stopped t.new) ≡ script_plan (T.stopped t.old) args kept program) }
-    ensures edits { OnlyEdits T.stopped T.around t.old t.new }
-{
-    // For the proof alone: the process lives.
-    let _pid = t.pid();
-    let sp = t.reg(STACK);
-    let addresses = match addresses_behind(alloc, t, args, kept) {
-        Ok(addresses) => addresses,
-        Err(CallFault::Err(errno)) => return Ok(cancelled(errno)),
-        Err(CallFault::NoMemory) => return Err(NoMemory),
-    };
-    let Expanded {
-        host,
-        index,
-        args,
-        ..
-    } = program;
-    let edit = script_edit(alloc, sp, host, args, kept, addresses.as_slice())?;
-    Ok(Plan {
-        edit,
-        led: led_in(index),
-    })
 }

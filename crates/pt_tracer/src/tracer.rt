@@ -8,7 +8,7 @@ use crate::apply::apply;
 use crate::laws::tracer_is_its_definition;
 use crate::pending::{Calls, Pending};
 use crate::plan::{NOWHERE, Plan};
-use crate::planning::plan;
+use crate::planning::Planner;
 use crate::registers::Arguments;
 use crate::settling::{begin, give_back, has_begun};
 use pr_base::NoMemory;
@@ -93,13 +93,12 @@ impl Tracer {
                 self.calls.keep(pid, call)
             }
             None => {
-                let Plan { edit, led } = plan(
-                    self.alloc,
-                    t,
-                    &mut self.walker,
-                    &self.tags,
-                    &request,
-                )?;
+                let planner = Planner {
+                    alloc: self.alloc,
+                    tags: &self.tags,
+                    request: &request,
+                };
+                let Plan { edit, led } = planner.plan(t, &mut self.walker)?;
                 let answer = apply(t, edit)?;
                 let call = Pending {
                     passed,
@@ -148,6 +147,10 @@ impl Stops for Tracer {
 
     ghost forgets = { λ x pid y. y ≡ gone x pid };
 
+    ghost agrees = { λ x t user. Unit {0} };
+
+    ghost is_free = { λ x pid. Unit {0} };
+
     fn entry<T: Tracee>(&mut self, t: &mut T) -> Result<(), NoMemory> {
         let pid = t.pid();
         match t.request() {
@@ -187,10 +190,18 @@ impl Stops for Tracer {
             None => {}
         }
     }
+
+    ghost free_agrees = { λ x pid free t user. tt };
+
+    ghost lasts_with_shape = { λ x t u user sound shape before. tt };
 }
 
 impl Graphed for Tracer {
-    ghost use Rattle.pt_tracer.specs.Watched.{tracer};
+    ghost use Rattle.pt_tracer.specs.Watched.{Tracing, tracer};
+
+    ghost Part = { Tracing };
+
+    ghost part = { λ x. x };
 
     ghost does = { tracer };
 

@@ -1,13 +1,19 @@
-use Rattle.std.proofs.Common.{[], ◌∷◌, refl, subst, sym}
+use Rattle.std.proofs.Common.{[], ◌∷◌, ◌∙◌, refl, subst, sym}
 use Rattle.std.specs.Prelude.{codes}
 use Rattle.pt_bind.specs.Binding.{AreBounds}
-use Rattle.canon_tests.proofs.SettledRows.{bounds_by_test, row}
+use Rattle.pr_base.specs.declared.bind.Bound.{Bound}
+use Rattle.canon_tests.proofs.SettledRows.{added, bounds_by_test, row}
 use Rattle.canon_tests.proofs.tables.bindings_in_bindings.Goals as goal
 
 pub build-requires : goal.build-requires
 build-requires c =
-    subst AreBounds
-    (λ i. sym c.in_ok-bound.ensures i ∷ sym c.in_ok-bound-2.ensures i ∷ sym c.in_ok-bound-3.ensures i ∷ sym c.in_ok-bound-4.ensures i ∷ sym c.in_ok-bound-5.ensures i ∷ sym c.in_ok-bound-6.ensures i ∷ [])
+    let root = added Bound _ _ _ [] c.in_ok-add.ensures c.new-bounds.ensures.items in
+    let two = added Bound _ _ _ _ c.in_ok-add-2.ensures root in
+    let three = added Bound _ _ _ _ c.in_ok-add-3.ensures two in
+    let four = added Bound _ _ _ _ c.in_ok-add-4.ensures three in
+    let five = added Bound _ _ _ _ c.in_ok-add-5.ensures four in
+    let six = added Bound _ _ _ _ c.in_ok-add-6.ensures five in
+    subst AreBounds (sym (c.as_slice.ensures.value ∙ six))
     (bounds_by_test (codes "g" ∷ []) (
     row 4 (codes "x" ∷ codes "mnt" ∷ []) (codes "data" ∷ []) (codes "x" ∷ codes "other" ∷ [])
     ∷ row 2 (codes "mnt" ∷ []) (codes "other" ∷ []) (codes "mnt" ∷ codes "g" ∷ [])

@@ -3,4 +3,4 @@ use Rattle.kr_stops.specs.Watching.{watching}
 use Rattle.kr_turns.proofs.laws.turns_are_functions.Goals as goal
 
 pub returns : goal.returns
-returns g c = turns-are-functions (watching g.S.Stops.enters g.S.Stops.exits g.S.Stops.bears g.S.Stops.forgets)
+returns g c = turns-are-functions (λ x. x) (watching g.S.Stops.enters g.S.Stops.exits g.S.Stops.bears g.S.Stops.forgets)

@@ -9,7 +9,7 @@ use Rattle.kr_turns.proofs.turn.come_out.Goals as goal
 pub exit-requires : goal.exit-requires
 exit-requires g c =
     let sound = sound-of g.P.Places.number (g.P.Places.mounts c.args.places.now) c.args.state.now c.requires.runs.lasts.lawful c.requires.runs.served in
-    (lit< tt, (c.requires.runs, found-lives c.args.state.now c.args.pid _ sound c.in-Some.ensures.some))
+    (lit< tt, (c.requires.runs, (found-lives c.args.state.now c.args.pid _ sound c.in-Some.ensures.some, c.requires.agrees)))
 
 pub returns-in-Some-clause-out : goal.returns-in-Some-clause-out
 returns-in-Some-clause-out g c =

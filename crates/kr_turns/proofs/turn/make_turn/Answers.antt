@@ -6,6 +6,7 @@ use Rattle.kr_seen.proofs.kr_ops.UseLemmas.{sound-of}
 use Rattle.kr_turns.specs.Making.{machine_of, tally_after}
 use Rattle.kr_stops.specs.Watching.{watching}
 use Rattle.kr_turns.specs.Turn.{with_broken, with_status}
+use Rattle.kr_turns.proofs.AgreeLemmas.{agrees-now, killed-agrees}
 use Rattle.kr_turns.proofs.BreakLemmas.{idle-here, killed-here}
 use Rattle.kr_turns.proofs.PlainLemmas.{if-ok}
 use Rattle.kr_turns.proofs.TurnLemmas.{computed-still, killed-now, turn-by}
@@ -31,7 +32,9 @@ killed_rule-requires g c =
 pub make_call-requires : goal.make_call-requires
 make_call-requires g c =
     let runs = c.in_ok-event.ensures.runs g.P.Places.number (g.P.Places.mounts c.args.places.now) c.args.calls c.requires.runs in
-    (lit< tt, (c.requires.named, (c.requires.few_rows, (runs, (c.requires.few, computed-still c.args.pid c.args.fuel c.args.state.now c.compute.new.state _ _ c.in_ok-event.ensures.computes)))))
+    let lives = computed-still c.args.pid c.args.fuel c.args.state.now c.compute.new.state _ _ c.in_ok-event.ensures.computes in
+    let agrees = agrees-now g.S.Stops.agrees c.args.stops.now c.compute.new.state _ c.in_ok-event.ensures.computes.leaves c.requires.agrees in
+    (lit< tt, (c.requires.named, (c.requires.few_rows, (runs, (c.requires.few, (lives, agrees))))))
 
 pub kill-requires : goal.kill-requires
 kill-requires g c =
@@ -67,7 +70,7 @@ returns-in_ok-kill-in-Killed-clause-turn g c = λ p found tally.
     killed-now (watching g.S.Stops.enters g.S.Stops.exits g.S.Stops.bears g.S.Stops.forgets) g.P.Places.number (g.P.Places.mounts c.args.places.now) c.args.pid c.in-Killed.signal c.compute.new.state c.kill.new.state c.in_ok-kill-in-Killed.ensures.ends
     in (
       now,
-      c.gone.ensures,
+      c.gone.ensures.forgets,
       ap (λ (broken : Option Rule). with_status (128 + c.in-Killed.signal) (with_broken broken tally))
           (c.killed_rule.ensures ∙ killed-here g.P.Places.number (g.P.Places.mounts c.args.places.now) c.args.pid c.in-Killed.signal c.compute.new.state c.kill.new.state _ c.marks_read-read.ensures now),
     ))
@@ -75,3 +78,13 @@ returns-in_ok-kill-in-Killed-clause-turn g c = λ p found tally.
 pub returns-in_ok-kill-in-Killed-clause-runs : goal.returns-in_ok-kill-in-Killed-clause-runs
 returns-in_ok-kill-in-Killed-clause-runs g c =
     c.in_ok-kill-in-Killed.ensures.runs g.P.Places.number (g.P.Places.mounts c.args.places.now) c.args.calls (c.in_ok-event.ensures.runs g.P.Places.number (g.P.Places.mounts c.args.places.now) c.args.calls c.requires.runs)
+
+pub returns-in-Next-clause-agrees : goal.returns-in-Next-clause-agrees
+returns-in-Next-clause-agrees g c = agrees-now g.S.Stops.agrees c.args.stops.now c.compute.new.state _ c.in_ok-event.ensures.computes.leaves c.requires.agrees
+
+pub returns-in_ok-kill-in-Killed-clause-agrees : goal.returns-in_ok-kill-in-Killed-clause-agrees
+returns-in_ok-kill-in-Killed-clause-agrees g c =
+    let runs = c.in_ok-event.ensures.runs g.P.Places.number (g.P.Places.mounts c.args.places.now) c.args.calls c.requires.runs in
+    let before = agrees-now g.S.Stops.agrees c.args.stops.now c.compute.new.state _ c.in_ok-event.ensures.computes.leaves c.requires.agrees in
+    c.gone.ensures.agrees _ _
+    (killed-agrees g.S.Stops.agrees g.met.S.Stops.lasts_with_shape c.args.pid c.in-Killed.signal c.compute.new.state c.kill.new.state c.args.stops.now runs.lasts.lawful.tree c.in_ok-kill-in-Killed.ensures.ends before)

@@ -1,5 +1,5 @@
 use Rattle.std.proofs.Common.{◌≡◌, ap, subst, ◌∙◌}
-use Rattle.kr_core.specs.Kernel.{HasRun, Turns, machine}
+use Rattle.kr_core.specs.Kernel.{HasRun, Turns, machine, machine_by}
 use Rattle.kr_core.specs.declared.kernel.Turned.{Turned}
 use Rattle.kr_core.specs.kr_stops.Watching.{watching}
 use Rattle.kr_core.specs.kr_turns.Run.{after_put, put_by}
@@ -12,13 +12,15 @@ use Rattle.pr_run.proofs.keeping.keep_turn.Goals as goal
 pub returns-clause-keeps : goal.returns-clause-keeps
 returns-clause-keeps g c =
     let number = g.P.Places.number in
-    let m = machine number c.args.kernel.now in
+    let part = g.S.Graphed.part in
+    let old = machine number c.args.kernel.now in
+    let m = machine_by number part c.args.kernel.now in
     let w = watching g.S.Stops.enters g.S.Stops.exits g.S.Stops.bears g.S.Stops.forgets in
     let made : HasRun number w (g.P.Places.mounts c.args.kernel.now.places) c.args.slot.pick c.args.slot.fuel c.args.kernel.now c.turn.new.self =
     subst (λ (t : Turned). Turns number w (g.P.Places.mounts c.args.kernel.now.places) c.args.slot.pick c.args.slot.fuel c.args.kernel.now c.turn.new.self t) c.in-Ok-Ran.field-0-is c.in-Ok-Ran.ensures.turns in
-    let turned : machine number c.turn.new.self ≡ after_slot g.S.Graphed.does g.row.M (g.P.Places.mounts c.args.kernel.now.places) c.args.slot m =
-    c.turns_are_functions.ensures.turns g.S.Graphed.does g.row.M (g.P.Places.mounts c.args.kernel.now.places) c.args.slot.pick c.args.slot.fuel made.process m (machine number c.turn.new.self) c.is_graph.ensures made.picked made.turn in (
+    let turned : machine_by number part c.turn.new.self ≡ after_slot g.S.Graphed.does g.row.M (g.P.Places.mounts c.args.kernel.now.places) c.args.slot m =
+    c.parts_turn.ensures.turns g.S.Graphed.does g.row.M (g.P.Places.mounts c.args.kernel.now.places) c.args.slot.pick c.args.slot.fuel made.process old (machine number c.turn.new.self) c.is_graph.ensures made.picked made.turn in (
       goes m c.args.slot.pick made.process made.picked,
-      forgotten number c.turn.new.self c.take_bytes.new.kernel c.in_ok-written.ensures.cleared ∙ ap after_put turned,
+      forgotten number part c.turn.new.self c.take_bytes.new.kernel c.in_ok-written.ensures.cleared ∙ ap after_put turned,
       ap puts_told c.in_ok-push.ensures.items ∙ told-push c.args.puts.now.items c.in_ok-written.written (put_by (after_slot g.S.Graphed.does g.row.M (g.P.Places.mounts c.args.kernel.now.places) c.args.slot m)) (c.in_ok-written.ensures.bytes ∙ ap put_by turned),
     )

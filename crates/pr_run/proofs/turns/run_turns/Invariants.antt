@@ -1,6 +1,6 @@
 use Rattle.std.proofs.Common.{◌≡◌, ◌≤◌, take, true}
 use Rattle.pr_io.specs.Moves.{Gets}
-use Rattle.kr_core.specs.Kernel.{machine}
+use Rattle.kr_core.specs.Kernel.{machine_by}
 use Rattle.kr_core.specs.kr_turns.Run.{run}
 use Rattle.pr_run.specs.Report.{errs, outs}
 use Rattle.pr_run.specs.Slots.{slot_of}
@@ -11,12 +11,12 @@ abbrev pub invariant-loop-turn : goal.invariant-loop-turn
 invariant-loop-turn g l =
     let table = g.P.Places.mounts l.fn.kernel.places in
     let slots = slot_of l.fn.plan.schedule in
-    let whole = run g.S.Graphed.does g.row.M table slots l.fn.plan.turns (machine g.P.Places.number l.fn.kernel) in
+    let whole = run g.S.Graphed.does g.row.M table slots l.fn.plan.turns (machine_by g.P.Places.number g.S.Graphed.part l.fn.kernel) in
     record {
       whole_is : l.kernel.whole ≡ true;
       turns : l.kernel.turns ≡ l.turn;
       places : l.kernel.places ≡ l.fn.kernel.places;
-      rest : IsRest g.S.Graphed.does g.row.M table slots whole l.fn.plan.turns l.turn (machine g.P.Places.number l.kernel);
+      rest : IsRest g.S.Graphed.does g.row.M table slots whole l.fn.plan.turns l.turn (machine_by g.P.Places.number g.S.Graphed.part l.kernel);
       out : Gets (g.O.Sink.got l.fn.out) (g.O.Sink.got l.out) (outs (take l.turn whole.puts));
       err : Gets (g.R.Sink.got l.fn.err) (g.R.Sink.got l.err) (errs (take l.turn whole.puts));
       out_count : g.O.Sink.faults l.fn.out ≤ g.O.Sink.faults l.out;

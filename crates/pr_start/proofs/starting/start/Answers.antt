@@ -10,7 +10,7 @@ use Rattle.pr_start.proofs.starting.start.Goals as goal
 pub start-requires : goal.start-requires
 start-requires c =
     let prepared = c.requires.ready.prepared in
-    (lit< tt, (lit< tt, (prepared.stands, (c.requires.ready.few, (prepared.free, (prepared.lasts, (prepared.named, (c.in-Ok.ensures.text, c.in-Ok.ensures.cwd))))))))
+    (lit< tt, (lit< tt, (prepared.stands, (c.requires.ready.few, (prepared.free, (prepared.lasts, (prepared.named, (c.in-Ok.ensures.text, (c.in-Ok.ensures.cwd, tt)))))))))
 
 pub returns-in-Ok-clause-begins : goal.returns-in-Ok-clause-begins
 returns-in-Ok-clause-begins c =

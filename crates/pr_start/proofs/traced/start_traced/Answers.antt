@@ -13,4 +13,4 @@ start-requires c =
     let ready = c.requires.ready.prepared in
     let stands = plain_stands tree ready.settled.sound in
     let first = can-start c.firsts_can_start.ensures (table_of c.args.stage.places) tree c.args.stage.user (rows_of c.in-Ok.walker) c.new-tags.result c.first.new.tags c.args.launch c.in-Ok-first.first ready.settled (ap rows_of c.in-Ok.ensures ∙ c.requires.texts) c.in-Ok-first.ensures.begins in
-    (lit< tt, (lit< tt, (stands.0, (lit< tt, (ready.free, (ready.lasts, (settled-are-named tree plain stands.1, first)))))))
+    (lit< tt, (lit< tt, (stands.0, (lit< tt, (ready.free, (ready.lasts, (settled-are-named tree plain stands.1, (first.0, (first.1, tt)))))))))

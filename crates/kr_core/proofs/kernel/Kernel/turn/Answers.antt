@@ -31,9 +31,11 @@ returns-in_default-clause-turns g c =
 
 pub make_turn-requires : goal.make_turn-requires
 make_turn-requires g c =
-    let runs = c.self.invariant.runs (ap (λ k. k.whole) c.self.view_is ∙ c.requires.whole) in
+    let whole = ap (λ k. k.whole) c.self.view_is ∙ c.requires.whole in
+    let runs = c.self.invariant.runs whole in
     let p = picks g.P.Places.number c.self.inside.state c.args.pick c.in-Some.pid runs.lasts.lawful.pids (sym c.picked.ensures ∙ c.in-Some.is) in
-    (lit< tt, (c.self.invariant.named, (c.self.invariant.few, (runs, (subst (λ n. n < 2 ^ 31) (sym (ap (λ k. k.turns) c.self.view_is)) c.requires.few, subst IsSome (sym p.lives) refl)))))
+    let few = subst (λ n. n < 2 ^ 31) (sym (ap (λ k. k.turns) c.self.view_is)) c.requires.few in
+    (lit< tt, (c.self.invariant.named, (c.self.invariant.few, (runs, (few, (subst IsSome (sym p.lives) refl, c.self.invariant.agreement whole))))))
 
 pub invariant_of-self-2 : goal.invariant_of-self-2
 invariant_of-self-2 g c = record {
@@ -42,6 +44,7 @@ invariant_of-self-2 g c = record {
   runs = λ whole.
       let more : suc c.self.inside.turns ≡ c.self.inside.turns + 1 = omega arith in
       subst (λ n. Runs {M = g.row.MARKED} g.P.Places.number (g.P.Places.mounts c.self.inside.places) n c.make_turn.new.state) more c.in_ok-made.ensures.runs;
+  agreement = λ whole. c.in_ok-made.ensures.agrees;
 }
 
 pub returns-clause-turns : goal.returns-clause-turns

@@ -1,0 +1,64 @@
+use Rattle.std.proofs.Common.{◌≡◌, ◌∙◌, ◌≤◌, Err, Ok, true, sym, ap, subst}
+use Rattle.pr_base.specs.declared.bind.Bound.{Bound}
+use Rattle.std.specs.Prelude.{List}
+use Rattle.pt_bind.specs.Binding.{rows_of}
+use Rattle.pt_faker.specs.Stopping.{Stopped}
+use Rattle.pt_faker.proofs.StopLemmas.{only-then, same-edits}
+use Rattle.pt_faker.specs.Reading.{Reads, lists_at}
+use Rattle.pt_faker.specs.declared.lists.Handed.{Handed}
+use Rattle.pt_results.specs.kr_calls.declared.fault.CallFault.{CallFault}
+use Rattle.pt_faker.specs.Carrying.{CarriesOut}
+use Rattle.pt_results.specs.pt_args.declared.reached.Reached.{Reached}
+use Rattle.std.specs.Prelude.{Option}
+use Rattle.pt_tracer.specs.Planning.{expand_with, is_swap, led_at, stack_at, texts_at}
+use Rattle.pt_tracer.specs.declared.plan.Led.{Led}
+use Rattle.pt_tracer.proofs.PlanLemmas.{if_ok, led-first, lists-expanded, lists-refused, peeks-then, stack-stays}
+use Rattle.pt_tracer.proofs.planning.ExecvePlanner.plan.Goals as goal
+
+pub returns-then-not-is_swap-clause-edits : goal.returns-then-not-is_swap-clause-edits
+returns-then-not-is_swap-clause-edits g c = record {
+  edits = same-edits (g.T.Tracee.stopped c.args.t.now) c.pid-pid.ensures.lives (g.T.Tracee.stopped c.rewritten.new.t) c.in_ok-edit.ensures.process.same;
+  rest = c.in_ok-edit.ensures.process.rest;
+}
+
+pub expand_with-requires-clause-room : goal.expand_with-requires-clause-room
+expand_with-requires-clause-room g c =
+    let execve = c.args.self.now in
+    let t = g.T.Tracee.stopped c.args.t.now in
+    let u = g.T.Tracee.stopped c.read_lists.new.t in
+    let was : g.T.Tracee.stopped c.rewritten.new.t ≡ t = c.in_ok-edit.ensures.process.same in
+    let swaps : is_swap c.in_ok-edit.field-0.edit ≡ true = sym c.is_swap.ensures ∙ c.if-not-is_swap.false in
+    let reads : CarriesOut (lists_at execve.lists.args execve.lists.env) (Ok c.in-Ok.handed) t u = subst (λ (x : Stopped). CarriesOut (lists_at execve.lists.args execve.lists.env) (Ok c.in-Ok.handed) x u) was c.in-Ok.ensures.read in
+    let stays : stack_at u ≡ stack_at t = stack-stays (lists_at execve.lists.args execve.lists.env) (Ok c.in-Ok.handed) t u c.pid-pid.ensures.lives reads in
+    subst (λ n. 65536 ≤ n) (sym stays) (c.in_ok-edit.ensures.room swaps)
+
+pub returns-in-Ok-clause-plan : goal.returns-in-Ok-clause-plan
+returns-in-Ok-clause-plan g c =
+    let execve = c.args.self.now in
+    let t = g.T.Tracee.stopped c.args.t.now in
+    let u = g.T.Tracee.stopped c.read_lists.new.t in
+    let was : g.T.Tracee.stopped c.rewritten.new.t ≡ t = c.in_ok-edit.ensures.process.same in
+    let swaps : is_swap c.in_ok-edit.field-0.edit ≡ true = sym c.is_swap.ensures ∙ c.if-not-is_swap.false in
+    let reads : CarriesOut (lists_at execve.lists.args execve.lists.env) (Ok c.in-Ok.handed) t u = subst (λ (x : Stopped). CarriesOut (lists_at execve.lists.args execve.lists.env) (Ok c.in-Ok.handed) x u) was c.in-Ok.ensures.read in
+    let steps = lists-expanded (rows_of c.args.walker.now) execve.planner.tags.now t u execve.planner.request.now execve.path.now execve.lists c.in_ok-edit.field-0.edit c.in-Ok.handed c.in_ok-edit.ensures.edit swaps reads in
+    if_ok c.expand_with.result
+    (λ plan e. e ∙ ap (λ (l : List Bound). expand_with (rows_of l) execve.planner.tags.now c.in_ok-edit.field-0.edit execve.path.now execve.lists.args c.in-Ok.handed u) c.in_ok-edit.ensures.walker ∙ sym steps)
+    c.expand_with.ensures.plan
+
+pub returns-in-Ok-clause-edits : goal.returns-in-Ok-clause-edits
+returns-in-Ok-clause-edits g c = only-then (peeks-then c.in_ok-edit.ensures.process c.in-Ok.ensures.edits) c.expand_with.ensures.edits
+
+pub returns-in-Err-Err-clause-plan : goal.returns-in-Err-Err-clause-plan
+returns-in-Err-Err-clause-plan g c =
+    let execve = c.args.self.now in
+    let t = g.T.Tracee.stopped c.args.t.now in
+    let u = g.T.Tracee.stopped c.read_lists.new.t in
+    let was : g.T.Tracee.stopped c.rewritten.new.t ≡ t = c.in_ok-edit.ensures.process.same in
+    let swaps : is_swap c.in_ok-edit.field-0.edit ≡ true = sym c.is_swap.ensures ∙ c.if-not-is_swap.false in
+    let told : CarriesOut (lists_at execve.lists.args execve.lists.env) (Err c.in-Err-Err.field-0-0) (g.T.Tracee.stopped c.rewritten.new.t) u =
+    subst (λ (f : CallFault). Reads {A = Handed} (Err f) (lists_at execve.lists.args execve.lists.env) (g.T.Tracee.stopped c.rewritten.new.t) u) c.in-Err-Err.field-0-is c.in-Err-Err.ensures.read
+    in
+    let reads : CarriesOut (lists_at execve.lists.args execve.lists.env) (Err c.in-Err-Err.field-0-0) t u = subst (λ (x : Stopped). CarriesOut (lists_at execve.lists.args execve.lists.env) (Err c.in-Err-Err.field-0-0) x u) was told in
+    let steps = lists-refused (rows_of c.args.walker.now) execve.planner.tags.now t u execve.planner.request.now execve.path.now execve.lists c.in_ok-edit.field-0.edit c.in-Err-Err.field-0-0 c.in_ok-edit.ensures.edit swaps reads in
+    let led = c.led_at-led.ensures ∙ ap (λ (o : Option Reached). led_at execve.planner.request.now o) c.in_ok-edit.ensures.first ∙ led-first (texts_at (rows_of c.args.walker.now) execve.planner.tags.now t) t.pid execve.planner.request.now in
+    ap (λ (l : Led). (record { edit = c.in_ok-edit.field-0.edit; led = l }, u)) led ∙ sym steps
