@@ -3,7 +3,7 @@ ghost use Rattle.std.specs.Prelude.{◌≡◌, IfOk};
 ghost use Rattle.pt_canon.specs.Keys.{key_bytes, key_in};
 ghost use Rattle.pt_canon.specs.Remembering.{key_of, mode_number};
 
-use pt_bind::below::pr_base::{NoMemory, WalkMode};
+use pt_bind::below::pr_base::{Bytes, NoMemory, WalkMode};
 use std::alloc::Global;
 use std::marker::Model;
 
@@ -34,12 +34,13 @@ impl Key {
     ) -> Result<Key, NoMemory>
         ensures { IfOk result (λ key. key ≡ key_of base.now path.now mode) }
     {
-        let mut bytes = Vec::new(alloc);
-        bytes.extend_from_slice(&base.len().to_le_bytes())?;
-        bytes.push(number_of(mode))?;
-        bytes.extend_from_slice(base)?;
-        bytes.extend_from_slice(path)?;
-        Ok(Key { bytes })
+        let mut bytes = Bytes::copy(alloc, &base.len().to_le_bytes())?;
+        bytes.append(&[number_of(mode)])?;
+        bytes.append(base)?;
+        bytes.append(path)?;
+        Ok(Key {
+            bytes: bytes.into_vec(),
+        })
     }
 
     pub(crate) fn bytes(&self) -> &[u8]

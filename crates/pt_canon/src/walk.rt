@@ -95,8 +95,7 @@ fn may_be_free(mode: WalkMode) -> bool
 
 /// A path without a component ends where it begins. Where a name may be free, none was asked for.
 fn ends_here(at: Guest, terms: Terms) -> Ended
-    ensures ending { result.ending ≡ ending_of terms.mode (record { dir = at; name = []; last = last.Root; slash = terms.slash; found = Some at; jumped = false }) }
-    ensures steady { result.steady ≡ terms.steady }
+    ensures { result ≡ record { ending = ending_of terms.mode (record { dir = at; name = []; last = last.Root; slash = terms.slash; found = Some at; jumped = false }); steady = terms.steady } }
 {
     let ending = Ending {
         guest: at,
@@ -112,8 +111,7 @@ fn ends_here(at: Guest, terms: Terms) -> Ended
 
 /// A last `.`. Where a name may be free, none was asked for.
 fn ends_at_dot(at: Guest, terms: Terms) -> Ended
-    ensures ending { result.ending ≡ ending_of terms.mode (target_at at Dot terms.slash (Some at)) }
-    ensures steady { result.steady ≡ terms.steady }
+    ensures { result ≡ record { ending = ending_of terms.mode (target_at at Dot terms.slash (Some at)); steady = terms.steady } }
 {
     let ending = Ending {
         guest: at,
@@ -129,8 +127,7 @@ fn ends_at_dot(at: Guest, terms: Terms) -> Ended
 
 /// A last `..`. Where a name may be free, none was asked for, and the directory is the one in which it stands.
 fn ends_at_dot_dot(at: Guest, terms: Terms) -> Ended
-    ensures ending { result.ending ≡ ending_of terms.mode (target_at at DotDot terms.slash (Some (above at))) }
-    ensures steady { result.steady ≡ terms.steady }
+    ensures { result ≡ record { ending = ending_of terms.mode (target_at at DotDot terms.slash (Some (above at))); steady = terms.steady } }
 {
     let free = may_be_free(terms.mode);
     let ending = Ending {
@@ -147,8 +144,7 @@ fn ends_at_dot_dot(at: Guest, terms: Terms) -> Ended
 
 /// A last name, by the guest text of what stands there or could.
 fn ends_at_name(guest: Guest, terms: Terms, exists: bool) -> Ended
-    ensures ending { result.ending ≡ record { guest = guest; last = last.Name; slash = terms.slash; exists = exists } }
-    ensures steady { result.steady ≡ terms.steady }
+    ensures { result ≡ record { ending = record { guest = guest; last = last.Name; slash = terms.slash; exists = exists }; steady = terms.steady } }
 {
     let ending = Ending {
         guest,

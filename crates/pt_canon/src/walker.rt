@@ -111,6 +111,26 @@ impl Walker {
         ensures walker { WalksOn (K.peeked kernel.old) self.old self.new }
         ensures kernel { OnlyPeeks K.peeked K.kept kernel.old kernel.new }
     {
+        self.answer(kernel, tags, base, path, mode)
+    }
+
+    /// The same: an answer that is remembered, or that of a walk.
+    fn answer<K: Peeks>(
+        &mut self,
+        kernel: &mut K,
+        tags: &Tags,
+        base: &[u8],
+        path: &[u8],
+        mode: WalkMode,
+    ) -> Result<Canon, WalkErr>
+        requires base { IsWritten base.now }
+        requires agrees { Agrees self.old (K.peeked kernel.old) }
+        ensures answer { IsAnswer (canon_of (texts_by self.old.table (K.peeked kernel.old) tags.now) mode (names_of base.now) path.now) result }
+        ensures written { IfOk result (λ canon. IsWritten canon.guest) }
+        ensures remembered { let key = key_of base.now path.now mode in
+            self.new ≡ after_walk self.old (is_steady_key (texts_by self.old.table (K.peeked kernel.old) tags.now) key) key result }
+        ensures kernel { OnlyPeeks K.peeked K.kept kernel.old kernel.new }
+    {
         if self.pauses != 0 {
             let walked = self.walked(kernel, tags, base, path, mode, false)?;
             return Ok(walked.canon);
