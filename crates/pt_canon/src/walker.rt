@@ -135,6 +135,27 @@ impl Walker {
             let walked = self.walked(kernel, tags, base, path, mode, false)?;
             return Ok(walked.canon);
         }
+        self.unpaused_answer(kernel, tags, base, path, mode)
+    }
+
+    /// The same while no pause stands.
+    fn unpaused_answer<K: Peeks>(
+        &mut self,
+        kernel: &mut K,
+        tags: &Tags,
+        base: &[u8],
+        path: &[u8],
+        mode: WalkMode,
+    ) -> Result<Canon, WalkErr>
+        requires base { IsWritten base.now }
+        requires running { self.old.pauses ≡ 0 }
+        requires agrees { Agrees self.old (K.peeked kernel.old) }
+        ensures answer { IsAnswer (canon_of (texts_by self.old.table (K.peeked kernel.old) tags.now) mode (names_of base.now) path.now) result }
+        ensures written { IfOk result (λ canon. IsWritten canon.guest) }
+        ensures remembered { let key = key_of base.now path.now mode in
+            self.new ≡ after_walk self.old (is_steady_key (texts_by self.old.table (K.peeked kernel.old) tags.now) key) key result }
+        ensures kernel { OnlyPeeks K.peeked K.kept kernel.old kernel.new }
+    {
         let key = Key::of(self.alloc, base, path, mode)?;
         match self.answers.recall(self.alloc, &key)? {
             Some(canon) => Ok(canon),
