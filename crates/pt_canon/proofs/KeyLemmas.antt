@@ -49,15 +49,15 @@ same_is a b same =
     let rest = and_second base (path && mode) same in
     let bases : a.base ≡ b.base = (bytes_eq-Decides a.base b.base).0 (and_first base (path && mode) same) in
     let paths : a.path ≡ b.path = (bytes_eq-Decides a.path b.path).0 (and_first path mode rest) in
-    let modes : a.mode ≡ b.mode = sym (mode_read a.mode) ∙ ap mode_of (eqb-true (mode_number a.mode) (mode_number b.mode) (and_second path mode rest)) ∙ mode_read b.mode in
-    λ i. key_of (bases i) (paths i) (modes i)
+    let ways : a.mode ≡ b.mode = sym (mode_read a.mode) ∙ ap mode_of (eqb-true (mode_number a.mode) (mode_number b.mode) (and_second path mode rest)) ∙ mode_read b.mode in
+    λ i. key_of (bases i) (paths i) (ways i)
 
 same_self : (a : Key) → same_key a a ≡ true
 same_self a =
     let bases = (bytes_eq-Decides a.base a.base).1 refl in
     let paths = (bytes_eq-Decides a.path a.path).1 refl in
-    let modes = eq-eqb (mode_number a.mode) (mode_number a.mode) refl in
-    λ i. bases i && (paths i && modes i)
+    let ways = eq-eqb (mode_number a.mode) (mode_number a.mode) refl in
+    λ i. bases i && (paths i && ways i)
 
 both_or_none : (a b : Bool) → (a ≡ true → b ≡ true) → (b ≡ true → a ≡ true) → a ≡ b
 both_or_none true b go back = sym (go refl)
