@@ -77,6 +77,10 @@ take_whole (suc n) (x ∷ xs) few = ap (λ xs. x ∷ xs) (take_whole n xs (omega
 -- ---- what is kept
 
 module _ {Z : Type 0} where
+  pub shown_as_many : (es : List (Vec ℕ Z × Canon)) → length es ≡ length (entries_in es)
+  shown_as_many [] = refl
+  shown_as_many (e ∷ es) = ap suc (shown_as_many es)
+
   -- a look-up by bytes, as by a key
   abbrev pub by_bytes : List ℕ → Vec ℕ Z → Bool
   by_bytes bytes k = bytes_eq bytes k.items
