@@ -146,6 +146,13 @@ pub after_running : (w : Walking) (steady : Bool) (key : Key) (canon : Canon) �
 after_running w steady key canon none =
     ap (λ b. if b && steady then record { table = w.table; pauses = w.pauses; remembered = with_newest key canon w.remembered } else w) (sym (eq-eqb w.pauses 0 none))
 
+-- one that is recalled is the newest again
+pub after_recalled : (w : Walking) (steady : Bool) (key : Key) (canon : Canon) → w.pauses ≡ 0 → steady ≡ true
+    → record { table = w.table; pauses = w.pauses; remembered = with_newest key canon w.remembered } ≡ after_walk w steady key (Ok canon)
+after_recalled w steady key canon none so =
+    ap (λ b. if b then record { table = w.table; pauses = w.pauses; remembered = with_newest key canon w.remembered } else w) (sym so)
+    ∙ after_running w steady key canon none
+
 -- ---- what a walk tells
 
 -- where it ends, as its answer
