@@ -132,8 +132,8 @@ impl Walker {
         ensures kernel { OnlyPeeks K.peeked K.kept kernel.old kernel.new }
     {
         if self.pauses != 0 {
-            let walked = self.walked(kernel, tags, base, path, mode, false)?;
-            return Ok(walked.canon);
+            let Walked { canon, steady: _ } = self.walked(kernel, tags, base, path, mode, false)?;
+            return Ok(canon);
         }
         self.unpaused_answer(kernel, tags, base, path, mode)
     }
