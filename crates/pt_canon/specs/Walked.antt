@@ -1,6 +1,6 @@
 -- What the steps of an answer leave of a walker. No public clause cites this module.
 use Rattle.std.specs.Prelude.{Bool, Option, Result, Ok, Err, if◌then◌else◌}
-use Rattle.pt_canon.specs.Kept.{after_recall}
+use Rattle.pt_canon.specs.KeptAnswers.{after_recall}
 use Rattle.pt_canon.specs.Remembering.{Key, Walking, with_newest}
 use Rattle.pt_canon.specs.declared.canon.Canon.{Canon}
 use Rattle.pt_canon.specs.declared.canon.WalkErr.{WalkErr}

@@ -3,7 +3,7 @@ ghost use Rattle.std.specs.Prelude.{◌≡◌, [], None, length, IfOk, IfSome, O
 ghost use Rattle.std.specs.Map.{lookup};
 ghost use Rattle.std.specs.NonZero.{non_zero_usize_get};
 ghost use Rattle.pt_bind.specs.Binding.{IsWritten};
-ghost use Rattle.pt_canon.specs.Kept.{after_recall};
+ghost use Rattle.pt_canon.specs.KeptAnswers.{after_recall};
 ghost use Rattle.pt_canon.specs.Remembering.{most_remembered, same_key, with_newest};
 
 use crate::canon::Canon;
@@ -29,7 +29,7 @@ pub(crate) struct Answers {
 
 impl Model for Answers {
     ghost use Rattle.std.specs.Prelude.{List};
-    ghost use Rattle.pt_canon.specs.Kept.{AreKept, entries_in};
+    ghost use Rattle.pt_canon.specs.KeptAnswers.{AreKept, entries_in};
     ghost use Rattle.pt_canon.specs.Remembering.{Key};
     ghost use Rattle.pt_canon.specs.declared.canon.Canon.{Canon};
 

@@ -1,6 +1,6 @@
 use Rattle.std.proofs.Common.{ap, subst, sym}
 use Rattle.std.proofs.lemmas.List.Elements.{All-nil}
-use Rattle.pt_canon.specs.Kept.{AreKept, IsKept, entries_in}
+use Rattle.pt_canon.specs.KeptAnswers.{AreKept, IsKept, entries_in}
 use Rattle.pt_canon.proofs.answers.Answers.clear.Goals as goal
 
 pub invariant_of-self : goal.invariant_of-self

@@ -1,5 +1,6 @@
 use Rattle.std.proofs.Common.{◌≡◌, ◌∙◌, Bool, true, Option, Some, None, IfSome, Ok, ap, subst, sym}
 use Rattle.std.specs.Map.{lookup}
+use Rattle.pt_bind.specs.pr_base.declared.memory.NoMemory.{NoMemory}
 use Rattle.pt_bind.specs.Binding.{IsWritten}
 use Rattle.pt_canon.specs.Canon.{canon_of, texts_by}
 use Rattle.pt_canon.specs.Remembering.{IsSo, Key, Walking, after_walk, is_steady_key, key_answer, key_of, same_key}
@@ -30,14 +31,14 @@ returns-in-Some-clause-remembered g c =
     let canon = c.in-Some.canon in
     let there : lookup (same_key key) w.remembered ≡ Some canon = ap (λ k. lookup (same_key k) w.remembered) (sym c.in_ok-key.ensures) ∙ sym c.in_ok-found.ensures.answer ∙ c.in-Some.is in
     let so = found_stands w.table peeked key canon w.remembered (c.requires.agrees.each c.requires.running) there c.args.tags.now in
-    c.recalled-found.ensures.newest ∙ (λ i. recalled w (c.in_ok-key.ensures i) (Ok (c.in-Some.is i)))
+    c.in_ok-found.ensures.newest ∙ (λ i. recalled {E = NoMemory} w (c.in_ok-key.ensures i) (Ok (c.in-Some.is i)))
     ∙ after_recalled w (is_steady_key (texts_by w.table peeked c.args.tags.now) key) key canon c.requires.running so.steady
 
 pub note-requires : goal.note-requires
 note-requires g c =
     let w = c.args.self.now in
     let key = c.in_ok-key.key in
-    let still : c.recalled-found.new.self ≡ w = c.recalled-found.ensures.newest ∙ ap (λ found. recalled w key (Ok found)) c.in-None.is in
+    let still : c.recalled.new.self ≡ w = c.in_ok-found.ensures.newest ∙ ap (λ found. recalled {E = NoMemory} w key (Ok found)) c.in-None.is in
     record {
       running = ap (λ (w : Walking). w.pauses) still ∙ c.requires.running;
       fresh = ap (λ (w : Walking). lookup (same_key key) w.remembered) still ∙ sym c.in_ok-found.ensures.answer ∙ c.in-None.is;
