@@ -1,5 +1,5 @@
 -- What is kept under the bytes of keys, as what is remembered under keys.
-use Rattle.std.proofs.Common.{◌≡◌, ◌∙◌, ℕ, zero, suc, ◌-◌, ◌≤◌, Bool, true, false, cond, List, [], ◌∷◌, length, map, take, Option, Some, None, All, Vec, refl, ap, sym, subst, arith}
+use Rattle.std.proofs.Common.{◌≡◌, ◌∙◌, ℕ, zero, suc, ◌-◌, ◌≤◌, Bool, true, false, cond, List, [], ◌∷◌, length, take, Some, None, All, Vec, refl, ap, sym, subst, arith}
 use Rattle.std.specs.Map.{lookup, lookup_entry, remove_entry}
 use Rattle.std.specs.Option.{option_map_or}
 use Rattle.std.specs.Str.{bytes_eq}
@@ -7,7 +7,7 @@ use Rattle.std.proofs.lemmas.List.{take-map}
 use Rattle.std.proofs.lemmas.List.Elements.{All-cons, All-head, All-tail, All-take}
 use Rattle.lru.specs.LruCache.{LruCache, promoted, put_entries}
 use Rattle.pt_bind.specs.Binding.{IsWritten}
-use Rattle.pt_canon.specs.Keys.{IsKeyBytes, key_bytes, key_in}
+use Rattle.pt_canon.specs.Keys.{key_bytes, key_in}
 use Rattle.pt_canon.specs.KeptAnswers.{AreKept, IsKept, entries_in, shown_entry}
 use Rattle.pt_canon.specs.Remembering.{Key, most_remembered, same_key, with_newest}
 use Rattle.pt_canon.specs.declared.canon.Canon.{Canon}

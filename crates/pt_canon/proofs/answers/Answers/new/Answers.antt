@@ -1,4 +1,4 @@
-use Rattle.std.proofs.Common.{◌∙◌, ap, subst, sym}
+use Rattle.std.proofs.Common.{ap, subst, sym}
 use Rattle.std.proofs.lemmas.List.Elements.{All-nil}
 use Rattle.pt_canon.specs.KeptAnswers.{AreKept, IsKept, entries_in}
 use Rattle.pt_canon.proofs.answers.Answers.new.Goals as goal

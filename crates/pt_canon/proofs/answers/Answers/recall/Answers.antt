@@ -1,4 +1,4 @@
-use Rattle.std.proofs.Common.{◌≡◌, ◌∙◌, ◌≤◌, ℕ, length, Some, ap, subst, sym}
+use Rattle.std.proofs.Common.{◌∙◌, ◌≤◌, length, Some, ap, subst, sym}
 use Rattle.std.specs.Map.{lookup}
 use Rattle.pt_bind.specs.Binding.{IsWritten}
 use Rattle.pt_canon.specs.KeptAnswers.{AreKept, entries_in}

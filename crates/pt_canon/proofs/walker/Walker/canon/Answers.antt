@@ -1,4 +1,4 @@
-use Rattle.std.proofs.Common.{◌≡◌, subst, sym}
+use Rattle.std.proofs.Common.{subst, sym}
 use Rattle.pt_canon.specs.Remembering.{Walking, WalksOn, key_of}
 use Rattle.pt_canon.proofs.RememberLemmas.{walked_on}
 use Rattle.pt_canon.proofs.walker.Walker.canon.Goals as goal

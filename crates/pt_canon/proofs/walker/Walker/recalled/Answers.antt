@@ -1,4 +1,4 @@
-use Rattle.std.proofs.Common.{◌∙◌, ap, sym}
+use Rattle.std.proofs.Common.{◌∙◌, ap}
 use Rattle.pt_canon.specs.Remembering.{Walking}
 use Rattle.pt_canon.proofs.walker.Walker.recalled.Goals as goal
 

@@ -1,12 +1,12 @@
-use Rattle.std.proofs.Common.{◌≡◌, ◌∙◌, Bool, true, Option, Some, None, IfSome, Ok, ap, subst, sym}
+use Rattle.std.proofs.Common.{◌≡◌, ◌∙◌, Option, Some, IfSome, Ok, ap, subst, sym}
 use Rattle.std.specs.Map.{lookup}
 use Rattle.pt_bind.specs.pr_base.declared.memory.NoMemory.{NoMemory}
 use Rattle.pt_bind.specs.Binding.{IsWritten}
-use Rattle.pt_canon.specs.Canon.{canon_of, texts_by}
-use Rattle.pt_canon.specs.Remembering.{IsSo, Key, Walking, after_walk, is_steady_key, key_answer, key_of, same_key}
-use Rattle.pt_canon.specs.Walked.{noted, recalled}
+use Rattle.pt_canon.specs.Canon.{texts_by}
+use Rattle.pt_canon.specs.Remembering.{Walking, is_steady_key, key_of, same_key}
+use Rattle.pt_canon.specs.Walked.{recalled}
 use Rattle.pt_canon.specs.declared.canon.Canon.{Canon}
-use Rattle.pt_canon.proofs.RememberLemmas.{after_recalled, after_running, found_stands}
+use Rattle.pt_canon.proofs.RememberLemmas.{after_recalled, found_stands}
 use Rattle.pt_canon.proofs.walker.Walker.unpaused_answer.Goals as goal
 
 pub returns-in-Some-clause-answer : goal.returns-in-Some-clause-answer
