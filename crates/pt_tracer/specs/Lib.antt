@@ -10,7 +10,11 @@ pub use Rattle.pt_results.specs as pt_results
 pub use Rattle.pt_script.specs as pt_script
 pub use Rattle.pt_faker.specs.pt_ident as pt_ident
 pub use Rattle.pt_faker.specs as pt_faker
+pub mod Agreeing
+pub mod AgreeingLaws
 pub mod Answering
+pub mod Keeping
+pub mod Pausing
 pub mod Planning
 pub mod Poking
 pub mod Registers

@@ -15,10 +15,12 @@
 //! Only tested, or not shown: the program's runs
 #![tactic(auto)]
 
+mod altering;
 mod answering;
 mod apply;
 pub mod below;
 pub mod laws;
+mod pausing;
 mod pending;
 pub mod plan;
 mod planning;
