@@ -22,7 +22,7 @@ pub fn cwd_answer<K: Peeks>(
     size: u64,
     buf: u64,
 ) -> Result<Edit, NoMemory>
-    ensures answer { IfOk result (λ edit. edit ≡ cwd_answer (texts_by walker.now (K.peeked kernel.old) tags.now) pid size buf) }
+    ensures answer { IfOk result (λ edit. edit ≡ cwd_answer (texts_by walker.now.table (K.peeked kernel.old) tags.now) pid size buf) }
     ensures kernel { OnlyPeeks K.peeked K.kept kernel.old kernel.new }
 {
     match working_text(kernel, walker.table(), tags, pid)? {

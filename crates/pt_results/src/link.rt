@@ -5,6 +5,7 @@ ghost use Rattle.pt_bind.specs.Binding.{IsWritten, names_of};
 ghost use Rattle.pt_args.specs.pt_canon.Canon.{texts_by};
 ghost use Rattle.pt_results.specs.Answers.{jump_answer, lead_answer, link_answer, nowhere_answer, read_answer};
 ghost use Rattle.pt_args.specs.pt_canon.Leaving.{OnlyPeeks};
+ghost use Rattle.pt_args.specs.pt_canon.Remembering.{Agrees, WalksOn};
 
 use crate::numbers::count_of;
 use pr_base::{Bytes, Errno, NoMemory, PeekFault, PeekKind, Peeks, WalkMode, components};
@@ -24,7 +25,8 @@ pub(crate) struct Room {
 /// The answer of readlinkat(2) in guest terms for a link of the process directory other than `self`: the first bytes of the guest
 /// text to which it leads, and how many they are; ENOENT where its object has no guest text. `None` exactly where the path leads to no such
 /// link, or to that of a pipe or of the console, of which the plain kernel tells its own text. Whether the bytes may be written isn't
-/// asked here.
+/// asked here. What the walker remembers must agree with what the kernel tells; it may remember other answers then, also behind a refusal, and
+/// agrees still.
 pub fn link_answer<K: Peeks>(
     alloc: Global,
     kernel: &mut K,
@@ -33,8 +35,9 @@ pub fn link_answer<K: Peeks>(
     pid: u32,
     request: &Request,
 ) -> Result<Option<Edit>, NoMemory>
-    ensures answer { IfOk result (λ edit. edit ≡ link_answer (texts_by walker.old (K.peeked kernel.old) tags.now) pid request.now) }
-    ensures walker { walker.new ≡ walker.old }
+    requires agrees { Agrees walker.old (K.peeked kernel.old) }
+    ensures answer { IfOk result (λ edit. edit ≡ link_answer (texts_by walker.old.table (K.peeked kernel.old) tags.now) pid request.now) }
+    ensures walker { WalksOn (K.peeked kernel.old) walker.old walker.new }
     ensures kernel { OnlyPeeks K.peeked K.kept kernel.old kernel.new }
 {
     let Request::Readlinkat { buf, size, .. } = request else {
@@ -76,9 +79,10 @@ impl<'a> Reader<'a> {
     ) -> Result<Option<Edit>, NoMemory>
         requires guest { IsWritten canon.now.guest }
         requires host { IsTrue (is_absolute canon.now.host) }
-        ensures answer { let texts = texts_by walker.old (K.peeked kernel.old) self.now.tags.now in
+        requires agrees { Agrees walker.old (K.peeked kernel.old) }
+        ensures answer { let texts = texts_by walker.old.table (K.peeked kernel.old) self.now.tags.now in
             IfOk result (λ edit. edit ≡ read_answer texts canon.now self.now.room) }
-        ensures walker { walker.new ≡ walker.old }
+        ensures walker { WalksOn (K.peeked kernel.old) walker.old walker.new }
         ensures kernel { OnlyPeeks K.peeked K.kept kernel.old kernel.new }
     {
         match kernel.kind(canon.host.as_slice()) {
@@ -99,9 +103,10 @@ impl<'a> Reader<'a> {
     ) -> Result<Option<Edit>, NoMemory>
         requires guest { IsWritten canon.now.guest }
         requires host { IsTrue (is_absolute canon.now.host) }
-        ensures answer { let texts = texts_by walker.old (K.peeked kernel.old) self.now.tags.now in
+        requires agrees { Agrees walker.old (K.peeked kernel.old) }
+        ensures answer { let texts = texts_by walker.old.table (K.peeked kernel.old) self.now.tags.now in
             IfOk result (λ edit. edit ≡ jump_answer texts canon.now self.now.room (names_of canon.now.guest)) }
-        ensures walker { walker.new ≡ walker.old }
+        ensures walker { WalksOn (K.peeked kernel.old) walker.old walker.new }
         ensures kernel { OnlyPeeks K.peeked K.kept kernel.old kernel.new }
     {
         let Some((dir, name)) = parted(canon.guest.as_slice()) else {

@@ -7,6 +7,7 @@ ghost use Rattle.pt_args.specs.kr_calls.Expansion.{most_scripts};
 ghost use Rattle.pt_args.specs.kr_calls.Scripts.{BeginsScript};
 ghost use Rattle.pt_script.specs.Expanding.{ends_of, expanded_at, expanded_from, interpreted, shown_result};
 ghost use Rattle.pt_args.specs.pt_canon.Leaving.{OnlyPeeks};
+ghost use Rattle.pt_args.specs.pt_canon.Remembering.{Agrees, WalksOn};
 
 use crate::arguments::{is_too_big, new_args};
 use crate::command::Command;
@@ -40,7 +41,8 @@ pub struct Expanded {
 /// working directory without a guest text, the errors of the walk, EACCES of what is no regular file that the user may
 /// execute), then for each script in turn ELOOP where five were expanded before it, ENOEXEC where its line is refused, the
 /// errors of finding its interpreter, and E2BIG where the new arguments are more than 4,096, or have with their ends and
-/// the `env_bytes` of the environment more than 131,072 bytes.
+/// the `env_bytes` of the environment more than 131,072 bytes. What the walker remembers must agree with what the kernel tells; it may remember
+/// other answers then, also behind an error, and agrees still.
 pub fn expand<K: Peeks>(
     alloc: Global,
     kernel: &mut K,
@@ -51,8 +53,9 @@ pub fn expand<K: Peeks>(
     args: Texts,
     env_bytes: u32,
 ) -> Result<Expanded, WalkErr>
-    ensures answer { IsAnswer (expanded_at (texts_by walker.old (K.peeked kernel.old) tags.now) pid env_bytes path.now args) result }
-    ensures walker { walker.new ≡ walker.old }
+    requires agrees { Agrees walker.old (K.peeked kernel.old) }
+    ensures answer { IsAnswer (expanded_at (texts_by walker.old.table (K.peeked kernel.old) tags.now) pid env_bytes path.now args) result }
+    ensures walker { WalksOn (K.peeked kernel.old) walker.old walker.new }
     ensures kernel { OnlyPeeks K.peeked K.kept kernel.old kernel.new }
 {
     let working = working_text(kernel, walker.table(), tags, pid)?;
@@ -85,10 +88,11 @@ impl<'t, 'w> Finder<'t, 'w> {
         args: Texts,
         env_bytes: u32,
     ) -> Result<Expanded, WalkErr>
-        requires { IfSome (option_copied self.now.working) IsWritten }
-        ensures answer { let texts = texts_by walker.old (K.peeked kernel.old) self.now.tags.now in
+        requires working { IfSome (option_copied self.now.working) IsWritten }
+        requires agrees { Agrees walker.old (K.peeked kernel.old) }
+        ensures answer { let texts = texts_by walker.old.table (K.peeked kernel.old) self.now.tags.now in
             IsAnswer (expanded_from texts (option_copied self.now.working) env_bytes path.now args) result }
-        ensures walker { walker.new ≡ walker.old }
+        ensures walker { WalksOn (K.peeked kernel.old) walker.old walker.new }
         ensures kernel { OnlyPeeks K.peeked K.kept kernel.old kernel.new }
     {
         let program = self.program_from(kernel, walker, path)?;
@@ -111,9 +115,10 @@ impl<'t, 'w> Finder<'t, 'w> {
     ) -> Result<Expanded, WalkErr>
         requires working { IfSome (option_copied self.now.working) IsWritten }
         requires short { length command.program.head ≤ 256 }
-        ensures answer { let texts = texts_by walker.old (K.peeked kernel.old) self.now.tags.now in
+        requires agrees { Agrees walker.old (K.peeked kernel.old) }
+        ensures answer { let texts = texts_by walker.old.table (K.peeked kernel.old) self.now.tags.now in
             IsAnswer (shown_result (ends_of texts (option_copied self.now.working) env_bytes most_scripts command)) result }
-        ensures walker { walker.new ≡ walker.old }
+        ensures walker { WalksOn (K.peeked kernel.old) walker.old walker.new }
         ensures kernel { OnlyPeeks K.peeked K.kept kernel.old kernel.new }
     {
         let mut command = command;
@@ -141,10 +146,11 @@ impl<'t, 'w> Finder<'t, 'w> {
         requires working { IfSome (option_copied self.now.working) IsWritten }
         requires short { length script.program.head ≤ 256 }
         requires script { BeginsScript script.program.head }
-        ensures answer { let texts = texts_by walker.old (K.peeked kernel.old) self.now.tags.now in
+        requires agrees { Agrees walker.old (K.peeked kernel.old) }
+        ensures answer { let texts = texts_by walker.old.table (K.peeked kernel.old) self.now.tags.now in
             IsAnswer (interpreted texts (option_copied self.now.working) env_bytes script) result }
         ensures short { IfOk result (λ next. length next.program.head ≤ 256) }
-        ensures walker { walker.new ≡ walker.old }
+        ensures walker { WalksOn (K.peeked kernel.old) walker.old walker.new }
         ensures kernel { OnlyPeeks K.peeked K.kept kernel.old kernel.new }
     {
         let Command {

@@ -6,8 +6,9 @@
 //!
 //! `expand` answers exactly what the definition of scripts comes to (kr_calls; a kernel's own execve goes by the same one) where a program is
 //! found by a walk over guest texts and its first bytes are asked of its host text, or fails as that does, want of memory aside (`answer`; the
-//! definition is `expanded_at`): the program's host text and index, its arguments, and how many scripts led to it. The walker and what the kernel
-//! tells are as before (`walker`, `same`, `rest`). It asks nothing of its caller.
+//! definition is `expanded_at`): the program's host text and index, its arguments, and how many scripts led to it. What the kernel tells is as
+//! before (`kernel`). It asks that what its walker remembers agrees with that (`agrees`), and so it does behind it, whatever it answers; the walker's
+//! table and pauses are as before (`walker`).
 //!
 //! A file that is no script runs itself with its arguments as they are; behind at most five scripts that lead to one another the last interpreter
 //! runs, a sixth is ELOOP, and a script that leads nowhere gives its own error (`scripts_end`). No program runs in another way

@@ -8,6 +8,7 @@ ghost use Rattle.pt_args.specs.kr_calls.Expansion.{is_script};
 ghost use Rattle.pt_args.specs.kr_calls.Scripts.{BeginsScript};
 ghost use Rattle.pt_script.specs.Programs.{base_from, canon_from, program_from, program_in};
 ghost use Rattle.pt_args.specs.pt_canon.Leaving.{OnlyPeeks};
+ghost use Rattle.pt_args.specs.pt_canon.Remembering.{Agrees, WalksOn};
 
 use crate::finder::Finder;
 use pr_base::{Bytes, Errno, Peeks, WalkMode, components};
@@ -41,11 +42,12 @@ impl<'t, 'w> Finder<'t, 'w> {
         walker: &mut Walker,
         path: &[u8],
     ) -> Result<Program, WalkErr>
-        requires { IfSome (option_copied self.now.working) IsWritten }
-        ensures answer { let texts = texts_by walker.old (K.peeked kernel.old) self.now.tags.now in
+        requires working { IfSome (option_copied self.now.working) IsWritten }
+        requires agrees { Agrees walker.old (K.peeked kernel.old) }
+        ensures answer { let texts = texts_by walker.old.table (K.peeked kernel.old) self.now.tags.now in
             IsAnswer (program_from texts (option_copied self.now.working) path.now) result }
         ensures short { IfOk result (λ program. length program.head ≤ 256) }
-        ensures walker { walker.new ≡ walker.old }
+        ensures walker { WalksOn (K.peeked kernel.old) walker.old walker.new }
         ensures kernel { OnlyPeeks K.peeked K.kept kernel.old kernel.new }
     {
         let base = base_from(self.alloc, self.working, path)?;
@@ -61,11 +63,12 @@ impl<'t, 'w> Finder<'t, 'w> {
         path: &[u8],
         base: &[u8],
     ) -> Result<Canon, WalkErr>
-        requires { IsWritten base.now }
-        ensures answer { let texts = texts_by walker.old (K.peeked kernel.old) self.now.tags.now in
+        requires base { IsWritten base.now }
+        requires agrees { Agrees walker.old (K.peeked kernel.old) }
+        ensures answer { let texts = texts_by walker.old.table (K.peeked kernel.old) self.now.tags.now in
             IsAnswer (canon_from texts path.now base.now) result }
         ensures host { IfOk result (λ canon. IsTrue (is_absolute canon.host)) }
-        ensures walker { walker.new ≡ walker.old }
+        ensures walker { WalksOn (K.peeked kernel.old) walker.old walker.new }
         ensures kernel { OnlyPeeks K.peeked K.kept kernel.old kernel.new }
     {
         answers_are_of_their_texts();

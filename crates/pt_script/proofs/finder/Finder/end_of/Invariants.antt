@@ -1,14 +1,15 @@
 use Rattle.std.proofs.Common.{◌≡◌, ◌-◌, ◌≤◌, length}
 use Rattle.std.specs.Option.{option_copied}
 use Rattle.pt_args.specs.pt_canon.Canon.{texts_by}
+use Rattle.pt_args.specs.pt_canon.Remembering.{WalksOn}
 use Rattle.pt_script.proofs.ChainLemmas.{IsLeft}
 use Rattle.pt_script.proofs.finder.Finder.end_of.Given as goal
 
 abbrev pub invariant-scripts : goal.invariant-scripts
 invariant-scripts g l = record {
-  left : IsLeft (texts_by l.fn.walker (g.K.Peeks.peeked l.fn.kernel) l.self.tags.now) (option_copied l.self.working) l.env_bytes l.fn.command l.scripts l.command;
+  left : IsLeft (texts_by l.fn.walker.table (g.K.Peeks.peeked l.fn.kernel) l.self.tags.now) (option_copied l.self.working) l.env_bytes l.fn.command l.scripts l.command;
   short : length l.command.program.head ≤ 256;
-  walker : l.walker ≡ l.fn.walker;
+  walker : WalksOn (g.K.Peeks.peeked l.fn.kernel) l.fn.walker l.walker;
   same : g.K.Peeks.peeked l.kernel ≡ g.K.Peeks.peeked l.fn.kernel;
   rest : g.K.Peeks.kept l.kernel ≡ g.K.Peeks.kept l.fn.kernel;
 }
