@@ -6,6 +6,7 @@ ghost use Rattle.pt_args.specs.Plans.{plan_second};
 ghost use Rattle.pt_args.specs.Shelving.{address_below, with_item, with_zero};
 ghost use Rattle.pt_args.specs.Walks.{IsReached};
 ghost use Rattle.pt_canon.specs.Leaving.{OnlyPeeks};
+ghost use Rattle.pt_canon.specs.Remembering.{Agrees, WalksOn};
 
 use crate::caller::Caller;
 use crate::edit::{Edit, Swaps};
@@ -28,7 +29,8 @@ const LONGEST: usize = PATH_MAX - 1;
 /// the plain kernel refuses by itself stays as it is. An error of a walk cancels the call; so does EISDIR of a file to be made
 /// with a slash behind its name, EBUSY of a mount point that would be removed or renamed, ENAMETOOLONG of a host path of more than
 /// 4,095 bytes, and EFAULT where the shelf can't be used. The host paths are put on the shelf, the 65,536 bytes below `sp`;
-/// `shelf` tells whether these may be read and written.
+/// `shelf` tells whether these may be read and written. What the walker remembers must agree with what the kernel tells; it may remember other
+/// answers then, also behind a refusal, and agrees still.
 pub fn rewrite<K: Peeks>(
     alloc: Global,
     kernel: &mut K,
@@ -39,9 +41,10 @@ pub fn rewrite<K: Peeks>(
     shelf: bool,
     request: &Request,
 ) -> Result<Edit, NoMemory>
-    requires { IsTrue shelf → 65536 ≤ sp }
-    ensures edit { IfOk result (λ edit. edit ≡ edit_of (texts_by walker.old (K.peeked kernel.old) tags.now) pid sp shelf request.now) }
-    ensures walker { walker.new ≡ walker.old }
+    requires shelf { IsTrue shelf → 65536 ≤ sp }
+    requires agrees { Agrees walker.old (K.peeked kernel.old) }
+    ensures edit { IfOk result (λ edit. edit ≡ edit_of (texts_by walker.old.table (K.peeked kernel.old) tags.now) pid sp shelf request.now) }
+    ensures walker { WalksOn (K.peeked kernel.old) walker.old walker.new }
     ensures kernel { OnlyPeeks K.peeked K.kept kernel.old kernel.new }
 {
     let Rewritten { edit, first: _ } = rewrite_along(
@@ -69,10 +72,11 @@ pub fn rewrite_along<K: Peeks>(
     shelf: bool,
     request: &Request,
 ) -> Result<Rewritten, NoMemory>
-    requires { IsTrue shelf → 65536 ≤ sp }
-    ensures edit { IfOk result (λ r. r.edit ≡ edit_of (texts_by walker.old (K.peeked kernel.old) tags.now) pid sp shelf request.now) }
-    ensures first { IfOk result (λ r. r.first ≡ first_of (texts_by walker.old (K.peeked kernel.old) tags.now) pid request.now) }
-    ensures walker { walker.new ≡ walker.old }
+    requires shelf { IsTrue shelf → 65536 ≤ sp }
+    requires agrees { Agrees walker.old (K.peeked kernel.old) }
+    ensures edit { IfOk result (λ r. r.edit ≡ edit_of (texts_by walker.old.table (K.peeked kernel.old) tags.now) pid sp shelf request.now) }
+    ensures first { IfOk result (λ r. r.first ≡ first_of (texts_by walker.old.table (K.peeked kernel.old) tags.now) pid request.now) }
+    ensures walker { WalksOn (K.peeked kernel.old) walker.old walker.new }
     ensures kernel { OnlyPeeks K.peeked K.kept kernel.old kernel.new }
 {
     let entry = Entry {
@@ -96,12 +100,13 @@ struct Entry<'a> {
 impl<'a> Entry<'a> {
     /// What becomes of it (`rewrite`), and where its first path led.
     fn along<K: Peeks>(&self, kernel: &mut K, walker: &mut Walker) -> Result<Rewritten, NoMemory>
-        requires { IsTrue self.now.shelf → 65536 ≤ self.now.sp }
-        ensures edit { let texts = texts_by walker.old (K.peeked kernel.old) self.now.caller.tags.now in
+        requires shelf { IsTrue self.now.shelf → 65536 ≤ self.now.sp }
+        requires agrees { Agrees walker.old (K.peeked kernel.old) }
+        ensures edit { let texts = texts_by walker.old.table (K.peeked kernel.old) self.now.caller.tags.now in
             IfOk result (λ r. r.edit ≡ edit_of texts self.now.caller.pid self.now.sp self.now.shelf self.now.request.now) }
-        ensures first { let texts = texts_by walker.old (K.peeked kernel.old) self.now.caller.tags.now in
+        ensures first { let texts = texts_by walker.old.table (K.peeked kernel.old) self.now.caller.tags.now in
             IfOk result (λ r. r.first ≡ first_of texts self.now.caller.pid self.now.request.now) }
-        ensures walker { walker.new ≡ walker.old }
+        ensures walker { WalksOn (K.peeked kernel.old) walker.old walker.new }
         ensures kernel { OnlyPeeks K.peeked K.kept kernel.old kernel.new }
     {
         let Some(path) = path_of(self.request, 0) else {
@@ -131,9 +136,10 @@ impl<'a> Entry<'a> {
     ) -> Result<Edit, NoMemory>
         requires shelf { IsTrue self.now.shelf → 65536 ≤ self.now.sp }
         requires first { IsReached first.now }
-        ensures edit { let texts = texts_by walker.old (K.peeked kernel.old) self.now.caller.tags.now in
+        requires agrees { Agrees walker.old (K.peeked kernel.old) }
+        ensures edit { let texts = texts_by walker.old.table (K.peeked kernel.old) self.now.caller.tags.now in
             IfOk result (λ edit. edit ≡ edit_by self.now.sp self.now.shelf (plan_second texts self.now.caller.pid self.now.request.now first.now)) }
-        ensures walker { walker.new ≡ walker.old }
+        ensures walker { WalksOn (K.peeked kernel.old) walker.old walker.new }
         ensures kernel { OnlyPeeks K.peeked K.kept kernel.old kernel.new }
     {
         match self.caller.plan_second(kernel, walker, self.request, first) {

@@ -6,7 +6,9 @@
 //!
 //! `rewrite_along` answers what `rewrite` does, and where the first path led. `rewrite` answers exactly the edit of the definition for every request, want of memory aside (`edit`; the definition is `edit_of`): the call
 //! passes as it is, its paths are swapped for host paths that stand on the shelf below the stack pointer, or it is cancelled with an error. What
-//! was handed in is as before (`walker`, `same`, `rest`). It asks that 65,536 bytes lie below the stack pointer where the shelf can be used.
+//! the kernel tells is as before (`kernel`). It asks that 65,536 bytes lie below the stack pointer where the shelf can be used (`shelf`), and that what
+//! its walker remembers agrees with what the kernel tells (`agrees`); so it does behind it, whatever it answers, and the walker's table and pauses
+//! are as before (`walker`).
 //!
 //! Items on a shelf stand one below the other (`shelves_hold_their_items`), and a text on it is read back as a path is (`texts_are_read_back`). A
 //! call without a path passes; an edit changes no register but those of its call's paths and writes nothing but the shelf

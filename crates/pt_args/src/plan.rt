@@ -6,6 +6,7 @@ ghost use Rattle.pt_canon.specs.Canon.{IsAnswer, texts_by};
 ghost use Rattle.pt_args.specs.Plans.{plan_both, plan_first, plan_one, plan_second, swap_of};
 ghost use Rattle.pt_args.specs.Walks.{IsReached};
 ghost use Rattle.pt_canon.specs.Leaving.{OnlyPeeks};
+ghost use Rattle.pt_canon.specs.Remembering.{Agrees, WalksOn};
 
 use crate::caller::Caller;
 use crate::point::{both_are_busy, one_is_busy};
@@ -43,10 +44,11 @@ impl<'a> Caller<'a> {
         request: &Request,
         first: &Reached,
     ) -> Result<Plan, WalkErr>
-        requires { IsReached first.now }
-        ensures answer { let texts = texts_by walker.old (K.peeked kernel.old) self.now.tags.now in
+        requires first { IsReached first.now }
+        requires agrees { Agrees walker.old (K.peeked kernel.old) }
+        ensures answer { let texts = texts_by walker.old.table (K.peeked kernel.old) self.now.tags.now in
             IsAnswer (plan_second texts self.now.pid request.now first.now) result }
-        ensures walker { walker.new ≡ walker.old }
+        ensures walker { WalksOn (K.peeked kernel.old) walker.old walker.new }
         ensures kernel { OnlyPeeks K.peeked K.kept kernel.old kernel.new }
     {
         let Some(path) = path_of(request, 1) else {

@@ -5,6 +5,7 @@ ghost use Rattle.pt_canon.specs.pt_bind.Binding.{IsWritten};
 ghost use Rattle.pt_canon.specs.Canon.{IsAnswer, texts_by};
 ghost use Rattle.pt_args.specs.Walks.{walked, walked_from, IsReached};
 ghost use Rattle.pt_canon.specs.Leaving.{OnlyPeeks};
+ghost use Rattle.pt_canon.specs.Remembering.{Agrees, WalksOn};
 
 use crate::caller::Caller;
 use crate::purpose::{Purpose, purpose_of};
@@ -31,10 +32,11 @@ impl<'a> Caller<'a> {
         opening: bool,
         path: PathArg<'_>,
     ) -> Result<Option<Reached>, WalkErr>
-        ensures answer { let texts = texts_by walker.old (K.peeked kernel.old) self.now.tags.now in
+        requires agrees { Agrees walker.old (K.peeked kernel.old) }
+        ensures answer { let texts = texts_by walker.old.table (K.peeked kernel.old) self.now.tags.now in
             IsAnswer (walked texts self.now.pid opening (path_use path.entry)) result }
         ensures written { IfOk result (λ reached. IfSome reached IsReached) }
-        ensures walker { walker.new ≡ walker.old }
+        ensures walker { WalksOn (K.peeked kernel.old) walker.old walker.new }
         ensures kernel { OnlyPeeks K.peeked K.kept kernel.old kernel.new }
     {
         if path.text.is_empty() {
@@ -55,11 +57,12 @@ impl<'a> Caller<'a> {
         opening: bool,
         path: PathArg<'_>,
     ) -> Result<Option<Reached>, WalkErr>
-        requires { IsWritten base.now }
-        ensures answer { let texts = texts_by walker.old (K.peeked kernel.old) self.now.tags.now in
+        requires base { IsWritten base.now }
+        requires agrees { Agrees walker.old (K.peeked kernel.old) }
+        ensures answer { let texts = texts_by walker.old.table (K.peeked kernel.old) self.now.tags.now in
             IsAnswer (walked_from texts opening (path_use path.entry) (Some base.now)) result }
         ensures written { IfOk result (λ reached. IfSome reached IsReached) }
-        ensures walker { walker.new ≡ walker.old }
+        ensures walker { WalksOn (K.peeked kernel.old) walker.old walker.new }
         ensures kernel { OnlyPeeks K.peeked K.kept kernel.old kernel.new }
     {
         answers_are_of_their_texts();
