@@ -44,7 +44,11 @@ pub fn start_traced(
         return Err(StartFault::NoMemory);
     };
     let mut tags = Tags::new(alloc);
-    match first(alloc, &mut walker, &mut tags, &tree, user, launch) {
+    // What is told before a process lives isn't remembered.
+    walker.pause();
+    let found = first(alloc, &mut walker, &mut tags, &tree, user, launch);
+    walker.resume();
+    match found {
         Ok(first) => {
             let tracer = Tracer::new(alloc, walker, tags, user, ids);
             Kernel::start(alloc, Plain::new(), tracer, tree, user, input, first)

@@ -7,61 +7,39 @@ use Rattle.pt_faker.specs.kr_stops.Remembering.{FreesCaller, KeepsAllFree, Keeps
 use Rattle.pt_faker.specs.kr_stops.Stopped.{image_at}
 use Rattle.pt_results.specs.pt_canon.Remembering.{Walking}
 use Rattle.pt_tracer.specs.Agreeing.{AgreesWith}
-use Rattle.pt_tracer.specs.AgreeingLaws.{empty-agrees}
+use Rattle.pt_tracer.specs.AgreeingLaws.{empty-agrees, paused-agrees}
 use Rattle.pt_tracer.specs.Pausing.{IsPausedBy, IsPausedFor, Pausing, is_pausing}
 
 abbrev pausing : Walking → List ℕ → Pausing
 pausing w pids = record { walker = w; pids = pids }
 
+-- ---- who pauses it
+
 some-long : (pid : ℕ) (pids : List ℕ) → is_pausing pid pids ≡ true → length pids ≢ 0
 some-long pid [] is none = absurd cc
 some-long pid (p ∷ pids) is none = absurd (omega arith)
-
--- ---- who pauses it
-
-pub was-pausing : (b old new : Bool) → new ≡ cond b false old → new ≡ true → old ≡ true
-was-pausing true old new is yes = absurd cc
-was-pausing false old new is yes = sym is ∙ yes
 
 pub still-pausing : (b old new : Bool) → new ≡ cond b true old → old ≡ true → new ≡ true
 still-pausing true old new is yes = is
 still-pausing false old new is yes = is ∙ yes
 
--- ---- of one that is paused by some
-
-pub none-pauses : (w : Walking) (pids : List ℕ) → w.pauses ≡ 0 → pids ≡ [] → IsPausedBy w pids
-none-pauses w pids none is = subst (IsPausedBy w) (sym is) (record { counts = none; empty = λ pid pauses. absurd cc })
-
 module _ (w : Walking) (pids : List ℕ) (by : IsPausedBy w pids) where
   pub paused-for : (pid : ℕ) → is_pausing pid pids ≡ true → IsPausedFor (pausing w pids) pid
-  paused-for pid is = record { pauses = is; empty = by.empty pid is }
+  paused-for pid is = record { pauses = is; stands = λ none. some-long pid pids is (sym by.counts ∙ none) }
 
-  stands-still : (pid : ℕ) → is_pausing pid pids ≡ true → w.pauses ≢ 0
-  stands-still pid is none = some-long pid pids is (sym by.counts ∙ none)
+  -- with one pause more
+  pub paused-more : (v : Walking) (more : List ℕ) → v.pauses ≡ w.pauses + 1 → length more ≡ length pids + 1 → IsPausedBy v more
+  paused-more v more is long = record { counts = is ∙ ap (λ n. n + 1) by.counts ∙ sym long }
 
-  -- walks leave it so
-  pub walks-paused : (v : Walking) → v.pauses ≡ w.pauses → (w.pauses ≢ 0 → v ≡ w) → IsPausedBy v pids
-  walks-paused v pauses still = record {
-    counts = pauses ∙ by.counts;
-    empty = λ pid is. ap (λ (x : Walking). x.remembered) (still (stands-still pid is)) ∙ by.empty pid is;
-  }
-
-  -- one more
-  pub paused-more : (v : Walking) (more : List ℕ) → v ≡ record { table = w.table; pauses = w.pauses + 1; remembered = [] } → length more ≡ length pids + 1 → IsPausedBy v more
-  paused-more v more is long = subst (λ (x : Walking). IsPausedBy x more) (sym is) (record { counts = ap (λ n. n + 1) by.counts ∙ sym long; empty = λ pid pauses. refl })
-
-  -- one fewer
+  -- and with one fewer
   module _ (less : List ℕ) (long : length less + 1 ≡ length pids) where
     pub some-pauses : w.pauses ≢ 0
     some-pauses none = let counts = by.counts in absurd (omega arith)
 
-    pub paused-less : (v : Walking) → v ≡ record { table = w.table; pauses = w.pauses - 1; remembered = w.remembered } → ((q : ℕ) → is_pausing q less ≡ true → is_pausing q pids ≡ true) → IsPausedBy v less
-    paused-less v is fewer =
-        let counts = by.counts in
-        let left : w.pauses - 1 ≡ length less = omega arith in
-        subst (λ (x : Walking). IsPausedBy x less) (sym is) (record { counts = left; empty = λ q pauses. by.empty q (fewer q pauses) })
+    pub paused-less : (v : Walking) → v.pauses ≡ w.pauses - 1 → IsPausedBy v less
+    paused-less v is = let counts = by.counts in record { counts = omega arith }
 
--- ---- who has a pause of his own
+-- ---- each has a pause of its own
 
 pub others-paused : (w v : Walking) (pids left : List ℕ) (pid : ℕ) → IsPausedBy v left → ((q : ℕ) → eq_by_cmp nat_cmp pid q ≡ false → is_pausing q left ≡ is_pausing q pids) → KeepsOthersFree IsPausedFor pid (pausing w pids) (pausing v left)
 others-paused w v pids left pid by same = record { keeps = λ q other paused. paused-for v left by q (same q (ties-other pid q (λ e. other (sym e))) ∙ paused.pauses) }
@@ -69,14 +47,12 @@ others-paused w v pids left pid by same = record { keeps = λ q other paused. pa
 pub all-paused : (w v : Walking) (pids more : List ℕ) → IsPausedBy v more → ((q : ℕ) → is_pausing q pids ≡ true → is_pausing q more ≡ true) → KeepsAllFree IsPausedFor (pausing w pids) (pausing v more)
 all-paused w v pids more by still q paused = paused-for v more by q (still q paused.pauses)
 
--- ---- agreement
-
--- pauses are no part of it
-pauses-apart : (w : Walking) (n : ℕ) → StillAgrees AgreesWith w (record { table = w.table; pauses = n; remembered = w.remembered })
-pauses-apart w n tree user agrees = record { everywhere = λ s caller is own. record { each = (agrees.everywhere s caller is own).each } }
-
-pub resumed-agrees : (w v : Walking) (n : ℕ) → v ≡ record { table = w.table; pauses = n; remembered = w.remembered } → StillAgrees AgreesWith w v
-resumed-agrees w v n is = subst (λ (x : Walking). StillAgrees AgreesWith w x) (sym is) (pauses-apart w n)
+-- walks leave it to them
+pub kept-paused : (x y : Pausing) → y.pids ≡ x.pids → y.walker.pauses ≡ x.walker.pauses → KeepsAllFree IsPausedFor x y
+kept-paused x y pids pauses q paused = record {
+  pauses = ap (is_pausing q) pids ∙ paused.pauses;
+  stands = λ none. paused.stands (sym pauses ∙ none);
+}
 
 -- ---- at a call
 
@@ -88,5 +64,9 @@ spares-caller x t b is not = record { frees = λ alters. absurd cc }
 pub pauses-caller : (x : Pausing) (t : Stopped) (pid : ℕ) → pid ≡ t.pid → IsPausedFor x pid → FreesCaller IsPausedFor t x
 pauses-caller x t pid is paused = record { frees = λ alters. subst (IsPausedFor x) is paused }
 
-pub paused-agrees : (x : Pausing) (pid : ℕ) (t : Stopped) → IsPausedFor x pid → AgreesWith x.walker t.state.tree t.state.user
-paused-agrees x pid t paused = empty-agrees x.walker t.state.tree t.state.user paused.empty
+pub caller-agrees : (x : Pausing) (pid : ℕ) (t : Stopped) → IsPausedFor x pid → AgreesWith x.walker t.state.tree t.state.user
+caller-agrees x pid t paused = paused-agrees x.walker t.state.tree t.state.user paused.stands
+
+-- behind a pause nothing is remembered
+pub resumed-agrees : (w v : Walking) → v.remembered ≡ [] → StillAgrees AgreesWith w v
+resumed-agrees w v empty tree user agrees = empty-agrees v tree user empty

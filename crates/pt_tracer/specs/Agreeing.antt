@@ -1,5 +1,5 @@
 -- What a walker remembers agrees with a tree, as a user walks it.
-use Rattle.std.specs.Prelude.{◌≡◌, ◌≢◌, ℕ}
+use Rattle.std.specs.Prelude.{◌≡◌, ℕ}
 use Rattle.law_steady.specs.kr_model.Peeks.{peeked_of}
 use Rattle.law_steady.specs.kr_model.State.{Image, State}
 use Rattle.law_steady.specs.kr_tree.Tree.{Tree}
@@ -11,9 +11,8 @@ use Rattle.pt_results.specs.pt_canon.Remembering.{Agrees, Walking}
 pub record AgreesWith (w : Walking) (tree : Tree) (user : User) : Type 0 where
   pub everywhere : (s : State ℕ Image) (caller : ℕ) → s.tree ≡ tree → s.user ≡ user → Agrees w (peeked_of s caller)
 
--- what walks at a stop leave of a walker: in a pause all of it
+-- what walks at a stop leave of a walker
 pub record WalksAt (t : Stopped) (old new : Walking) : Type 0 where
   pub table : new.table ≡ old.table
   pub pauses : new.pauses ≡ old.pauses
   pub agrees : AgreesWith new t.state.tree t.state.user
-  pub paused : old.pauses ≢ 0 → new ≡ old

@@ -1,5 +1,5 @@
 -- Where what a walker remembers agrees with a tree. No clause cites this module.
-use Rattle.std.proofs.Common.{◌≡◌, ℕ, [], refl, sym, subst}
+use Rattle.std.proofs.Common.{◌≡◌, ◌≢◌, ℕ, [], refl, sym, subst}
 use Rattle.law_steady.specs.pt_canon.pr_base.declared.path.WalkMode.TheVariants.{LookLink}
 use Rattle.law_steady.specs.kr_model.Applied.{with_tree}
 use Rattle.law_steady.specs.kr_model.Judged.{HasShape}
@@ -10,7 +10,7 @@ use Rattle.law_steady.specs.kr_tree.Tree.{Tree}
 use Rattle.law_steady.specs.Steady.{HaveOneShape}
 use Rattle.law_steady.proofs.ExactLemmas.{same_shape}
 use Rattle.law_steady.proofs.SteadyLemmas.{steady_peeks_last, steady_walks_last}
-use Rattle.law_steady.proofs.pt_canon.RememberLemmas.{agreement_lasts, nothing_agrees}
+use Rattle.law_steady.proofs.pt_canon.RememberLemmas.{agreement_lasts, nothing_agrees, paused_agrees}
 use Rattle.pt_faker.specs.kr_inode.declared.user.User.{User}
 use Rattle.pt_results.specs.pt_canon.Remembering.{Agrees, Walking}
 use Rattle.pt_tracer.specs.Agreeing.{AgreesWith}
@@ -37,6 +37,9 @@ lasts-with-shape w t u user sound shape before = record {
       agrees-alike w home s caller caller (record { sound = sound; shape = subst (HasShape t) (sym is) shape; user = refl }) (before.everywhere home caller refl own);
 }
 
--- where nothing is remembered nothing is otherwise
+-- where a walker is paused, or remembers nothing, nothing is otherwise
+pub paused-agrees : (w : Walking) (tree : Tree) (user : User) → w.pauses ≢ 0 → AgreesWith w tree user
+paused-agrees w tree user stands = record { everywhere = λ s caller is own. paused_agrees w (peeked_of s caller) stands }
+
 pub empty-agrees : (w : Walking) (tree : Tree) (user : User) → w.remembered ≡ [] → AgreesWith w tree user
 empty-agrees w tree user empty = record { everywhere = λ s caller is own. nothing_agrees w (peeked_of s caller) empty }

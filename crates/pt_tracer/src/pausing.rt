@@ -58,8 +58,6 @@ impl PausingWalker {
         ensures pids { self.new.pids ≡ self.old.pids }
         ensures edits { OnlyEdits T.stopped T.around t.old t.new }
     {
-        // For the proof alone: the tree is sound.
-        let _pid = t.pid();
         planner.plan(t, &mut self.walker)
     }
 
@@ -87,9 +85,10 @@ impl PausingWalker {
         // For the proof alone: they are fewer than 2^63.
         let _count = self.pids.len();
         let is_new = self.pids.insert(pid)?;
-        if is_new {
-            self.walker.pause();
+        if !is_new {
+            return Ok(());
         }
+        self.walker.pause();
         Ok(())
     }
 
@@ -101,8 +100,9 @@ impl PausingWalker {
         ensures others { KeepsOthersFree IsPausedFor pid self.old self.new }
     {
         let paused = self.pids.remove(&pid);
-        if paused {
-            self.walker.resume();
+        if !paused {
+            return;
         }
+        self.walker.resume();
     }
 }

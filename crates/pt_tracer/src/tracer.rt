@@ -54,7 +54,7 @@ impl Model for Tracer {
 
 impl Tracer {
     ghost use Rattle.pt_tracer.specs.Keeping.{KeepingAgrees, KeepingIsFree, starting_keeping};
-    ghost use Rattle.pt_tracer.specs.Watched.{after_pending, by_identities, entered, exited, gone};
+    ghost use Rattle.pt_tracer.specs.Watched.{after_pending, born, by_identities, entered, exited, gone};
 
     /// A tracer by a walker without a pause, and with the tags of the first process. With an identity option processes start as the user
     /// `ids.0` and the group `ids.1`, and what the host user owns is theirs. It takes no memory.
@@ -165,6 +165,21 @@ impl Tracer {
         }
     }
 
+    /// A child has its parent's tags and identity.
+    fn bear(&mut self, parent: u32, child: u32) -> Result<(), NoMemory>
+        ensures bears { OnOk result (self.new.tracing ≡ born self.old.tracing parent child) }
+        ensures pausing { self.new.pausing ≡ self.old.pausing }
+    {
+        self.tags.fork(parent, child)?;
+        match &mut self.identities {
+            Some(table) => {
+                table.born(parent, child)?;
+                Ok(())
+            }
+            None => Ok(()),
+        }
+    }
+
     /// Nothing is kept of a process that ended, but for a pause.
     fn forget(&mut self, pid: u32)
         ensures forgets { self.new.tracing ≡ gone self.old.tracing pid }
@@ -210,7 +225,7 @@ fn starting_identities(alloc: Global, ids: Option<(u32, u32)>) -> Option<Identit
 }
 
 impl Stops for Tracer {
-    ghost use Rattle.pt_tracer.specs.AgreeingLaws.{empty-agrees, lasts-with-shape};
+    ghost use Rattle.pt_tracer.specs.AgreeingLaws.{lasts-with-shape, paused-agrees};
     ghost use Rattle.pt_tracer.specs.Keeping.{KeepingAgrees, KeepingIsFree};
     ghost use Rattle.pt_tracer.specs.Watched.{born, entered, exited, gone};
 
@@ -227,26 +242,21 @@ impl Stops for Tracer {
     ghost is_free = { KeepingIsFree };
 
     fn entry<T: Tracee>(&mut self, t: &mut T) -> Result<(), NoMemory> {
+        let pid = t.pid();
         // An earlier entry of the process may have left a pause.
-        self.resume_for(t.pid());
+        self.resume_for(pid);
         self.enter(t)?;
         self.pause_at(t)
     }
 
     fn exit<T: Tracee>(&mut self, t: &mut T) -> Result<(), NoMemory> {
-        self.resume_for(t.pid());
+        let pid = t.pid();
+        self.resume_for(pid);
         self.leave(t)
     }
 
     fn born(&mut self, parent: u32, child: u32) -> Result<(), NoMemory> {
-        self.tags.fork(parent, child)?;
-        match &mut self.identities {
-            Some(table) => {
-                table.born(parent, child)?;
-                Ok(())
-            }
-            None => Ok(()),
-        }
+        self.bear(parent, child)
     }
 
     fn gone(&mut self, pid: u32) {
@@ -254,7 +264,7 @@ impl Stops for Tracer {
         self.forget(pid);
     }
 
-    ghost free_agrees = { λ x pid free t user. empty-agrees x.pausing.walker t user free.empty };
+    ghost free_agrees = { λ x pid free t user. paused-agrees x.pausing.walker t user free.stands };
 
     ghost lasts_with_shape = { λ x t u user sound shape before. lasts-with-shape x.pausing.walker t u user sound shape before };
 }
