@@ -59,7 +59,9 @@ impl Told {
     }
 
     /// Sets how many calls find memory.
-    pub fn set_calls(&mut self, calls: u32) {
+    pub fn set_calls(&mut self, calls: u32)
+        ensures { self.new.rows ≡ self.old.rows }
+    {
         self.calls = calls;
     }
 

@@ -6,7 +6,7 @@ use crate::walking::{Bench, Case, End, THERE, Want, listed, meets};
 use kr_calls::Request;
 use pr_base::{Bytes, Errno, Last, NoMemory, WalkMode};
 use pt_bind::Tags;
-use pt_canon::WalkErr;
+use pt_canon::{WalkErr, Walker};
 use std::alloc::Global;
 use std::test::Fail;
 
@@ -466,5 +466,25 @@ fn want_of_memory_is_told(rt: HostRuntime) -> Result<(), Fail> {
     assert!(rt; bench.directory().is_ok());
     assert!(rt; bench.link(&reading).is_ok());
     assert!(rt; matches!(bench.program(b"n"), Err(WalkErr::Err(Errno::EACCES))));
+    Ok(())
+}
+
+#[test]
+fn answers_are_remembered(rt: HostRuntime) -> Result<(), Fail> {
+    let table = tables::one_binding(rt.alloc())?;
+    let mut told = listed(rt.alloc())?;
+    let tags = Tags::new(rt.alloc());
+    let mut walker = Walker::new(rt.alloc(), table)?;
+    let wanted = Want::At(b"/f", b"/g/f", 0, THERE);
+    let first = walker.canon(&mut told, &tags, b"/", b"/f", LOOK);
+    assert!(rt; meets(&first, wanted));
+    assert!(rt; walker.remembered() == 1);
+    // The second walk asks the kernel nothing.
+    told.set_calls(0);
+    let second = walker.canon(&mut told, &tags, b"/", b"/f", LOOK);
+    assert!(rt; meets(&second, wanted));
+    assert!(rt; walker.remembered() == 1);
+    walker.pause();
+    assert!(rt; walker.remembered() == 0);
     Ok(())
 }

@@ -1,4 +1,5 @@
 //! What walks over guest texts are tried on.
+ghost use Rattle.std.specs.Prelude.{◌≢◌};
 
 use crate::kernel::Told;
 use crate::texts::is_text;
@@ -44,24 +45,27 @@ pub fn meets(answer: &Result<Canon, WalkErr>, want: Want) -> bool {
     }
 }
 
-/// A tracer's walks, on a kernel in memory.
+/// A tracer's walks, on a kernel in memory. A pause stands, so that each walk is made anew.
 #[derive(Drop)]
 pub struct Bench {
     alloc: Global,
     walker: Walker,
     told: Told,
     tags: Tags,
+    ghost paused: { walker.pauses ≢ 0 },
 }
 
 impl Bench {
     pub fn new(alloc: Global, table: Table, told: Told, tags: Tags) -> Result<Bench, NoMemory> {
-        let walker = Walker::new(alloc, table)?;
-        Ok(Bench {
+        let mut walker = Walker::new(alloc, table)?;
+        walker.pause();
+        let bench = Bench {
             alloc,
             walker,
             told,
             tags,
-        })
+        };
+        Ok(bench)
     }
 
     /// The answer of a walk. What is no guest text is none to walk from.
