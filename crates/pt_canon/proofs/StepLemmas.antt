@@ -17,11 +17,13 @@ use Rattle.pt_bind.specs.Binding.{host_of}
 use Rattle.pt_canon.specs.Canon.{ending_of}
 use Rattle.pt_canon.specs.ProcessLinks.{above, jump_at, is_dir_kind}
 use Rattle.pt_canon.specs.Looks.{IsEntered, IsSeen, led}
+use Rattle.pt_canon.specs.Steadily.{looked}
 use Rattle.pt_canon.specs.Steps.{ended, left_on, middle_trail, last_trail, start_of, Tells, GoesOn, PassedIs, WayIs, IsFollowed, IsJumped}
 use Rattle.pt_canon.specs.TextWalk.{TextSurroundings, SeenText, look_text, looking_texts, seen_text}
 use Rattle.pt_canon.specs.Laws.{MayLook}
 use Rattle.pt_canon.specs.declared.canon.WalkErr.{WalkErr}
 use Rattle.pt_canon.specs.declared.canon.WalkErr.TheVariants as fault
+use Rattle.pt_canon.specs.declared.ending.Ended.{Ended}
 use Rattle.pt_canon.specs.declared.ending.Ending.{Ending}
 use Rattle.pt_canon.specs.declared.walk.Onward.{Onward}
 use Rattle.pt_canon.specs.declared.walk.Passed.{Passed}
@@ -34,26 +36,27 @@ use Rattle.pt_canon.proofs.LookLemmas.{open_look}
 -- ---- errors that are handed on
 
 -- an error that tells where a walk ends does so for any answer
-pub tells_error : {T U : Type 0} (P : T → Type 0) (Q : U → Type 0) (whole : Result Ending Errno) (e : WalkErr) (r : Result U WalkErr) → Tells P whole (Err e) → IsErr r → IsErrAnd r (λ f. f ≡ e) → Tells Q whole r
+pub tells_error : {T U : Type 0} (P : T → Type 0) (Q : U → Type 0) (whole : Result Ended Errno) (e : WalkErr) (r : Result U WalkErr) → Tells P whole (Err e) → IsErr r → IsErrAnd r (λ f. f ≡ e) → Tells Q whole r
 tells_error P Q whole e (Ok x) told err same = absurd cc
 tells_error P Q whole e (Err fault.NoMemory) told err same = tt
 tells_error P Q whole fault.NoMemory (Err (fault.Err f)) told err same = absurd cc
 tells_error P Q whole (fault.Err e) (Err (fault.Err f)) told err same = let one : f ≡ e = cc in told ∙ ap Err (sym one)
 
 -- want of memory tells nothing
-pub tells_want : {U : Type 0} (Q : U → Type 0) (whole : Result Ending Errno) (r : Result U WalkErr) → IsErr r → IsErrAnd r (λ f. f ≡ fault.NoMemory) → Tells Q whole r
+pub tells_want : {U : Type 0} (Q : U → Type 0) (whole : Result Ended Errno) (r : Result U WalkErr) → IsErr r → IsErrAnd r (λ f. f ≡ fault.NoMemory) → Tells Q whole r
 tells_want Q whole (Ok x) err same = absurd cc
 tells_want Q whole (Err (fault.Err e)) err same = absurd cc
 tells_want Q whole (Err fault.NoMemory) err same = tt
 
-module _ (texts : TextSurroundings) (terms : Terms) where
+-- by whether the walk is steady behind the look
+module _ (texts : TextSurroundings) (terms : Terms) (steady : Bool) where
   -- ---- looks
 
-  abbrev pub middle : Text → List Component → SeenText → Result Ending Errno
-  middle t rest seen = ended terms.mode (middle_trail texts terms t rest seen)
+  abbrev pub middle : Text → List Component → SeenText → Result Ended Errno
+  middle t rest seen = ended texts terms.mode steady (middle_trail texts terms t rest seen)
 
-  abbrev pub final : Text → Component → SeenText → Result Ending Errno
-  final t c seen = ended terms.mode (last_trail texts terms t c seen)
+  abbrev pub final : Text → Component → SeenText → Result Ended Errno
+  final t c seen = ended texts terms.mode steady (last_trail texts terms t c seen)
 
   pub middle_closed : (U : Type 0) (Q : U → Type 0) (t : Text) (c : Component) (rest : List Component) (e : WalkErr) (r : Result U WalkErr)
       → IsEntered texts t (Err e) → IsErr r → IsErrAnd r (λ f. f ≡ e) → Tells Q (middle t rest (look_text texts t c)) r
@@ -82,13 +85,13 @@ module _ (texts : TextSurroundings) (terms : Terms) where
   last_unseen U Q t entry name c fault.NoMemory r may of is told err same = tells_want Q _ r err same
 
   -- `.` and `..` where the directory may be searched
-  pub middle_dots : (t q : Text) (c : Component) (rest : List Component) → look_text texts t c ≡ Leads true q q → middle t rest (look_text texts t c) ≡ ended terms.mode (left_on texts terms.mode terms.left q rest terms.slash)
+  pub middle_dots : (t q : Text) (c : Component) (rest : List Component) → look_text texts t c ≡ Leads true q q → middle t rest (look_text texts t c) ≡ ended texts terms.mode steady (left_on texts terms.mode terms.left q rest terms.slash)
   middle_dots t q c rest e = ap (middle t rest) e
 
-  pub last_dots : (t q : Text) (c : Component) → look_text texts t c ≡ Leads true q q → final t c (look_text texts t c) ≡ Ok (ending_of terms.mode (target_at t c terms.slash (Some q)))
+  pub last_dots : (t q : Text) (c : Component) → look_text texts t c ≡ Leads true q q → final t c (look_text texts t c) ≡ Ok (record { ending = ending_of terms.mode (target_at t c terms.slash (Some q)); steady = steady })
   last_dots t q c e = ap (final t c) e ∙ either (wants_directory terms.mode terms.slash)
     where
-      either : (b : Bool) → ended terms.mode (if b then ends (target_at t c terms.slash (Some q)) else ends (target_at t c terms.slash (Some q))) ≡ Ok (ending_of terms.mode (target_at t c terms.slash (Some q)))
+      either : (b : Bool) → ended texts terms.mode steady (if b then ends (target_at t c terms.slash (Some q)) else ends (target_at t c terms.slash (Some q))) ≡ Ok (record { ending = ending_of terms.mode (target_at t c terms.slash (Some q)); steady = steady })
       either true = refl
       either false = refl
 
@@ -102,14 +105,14 @@ module _ (texts : TextSurroundings) (terms : Terms) where
   pub pass_named : (t entry : Text) (name : List ℕ) (c : Component) (rest : List Component) (s : SeenText) (r : Result Passed WalkErr) → MayLook texts t → c ≡ Name name → entry ≡ name ∷ t → seen_text texts entry ≡ s
       → Tells (PassedIs texts terms rest (middle (above entry) rest s)) (middle (above entry) rest s) r → Tells (PassedIs texts terms rest (middle t rest (look_text texts t c))) (middle t rest (look_text texts t c)) r
   pass_named t entry name c rest s r may of is seen told =
-      let P : Result Ending Errno → Type 0 = λ whole. Tells (PassedIs texts terms rest whole) whole r in
+      let P : Result Ended Errno → Type 0 = λ whole. Tells (PassedIs texts terms rest whole) whole r in
       let looked : look_text texts t c ≡ s = ap (look_text texts t) of ∙ named t name s may (ap (seen_text texts) (sym is) ∙ seen) in
       subst P (ap (λ t. middle (above t) rest s) is ∙ ap (middle t rest) (sym looked)) told
 
   pub arrive_named : (t entry : Text) (name : List ℕ) (c : Component) (s : SeenText) (r : Result Way WalkErr) → MayLook texts t → c ≡ Name name → entry ≡ name ∷ t → seen_text texts entry ≡ s
       → Tells (WayIs texts terms.mode terms.left (final t (Name name) s)) (final t (Name name) s) r → Tells (WayIs texts terms.mode terms.left (final t c (look_text texts t c))) (final t c (look_text texts t c)) r
   arrive_named t entry name c s r may of is seen told =
-      let P : Result Ending Errno → Type 0 = λ whole. Tells (WayIs texts terms.mode terms.left whole) whole r in
+      let P : Result Ended Errno → Type 0 = λ whole. Tells (WayIs texts terms.mode terms.left whole) whole r in
       let looked : look_text texts t c ≡ s = ap (look_text texts t) of ∙ named t name s may (ap (seen_text texts) (sym is) ∙ seen) in
       subst P ((λ i. final t (sym of i) s) ∙ ap (final t c) (sym looked)) told
 
@@ -122,30 +125,30 @@ jumps_to (suc left) go l some = refl
 -- ---- behind what stands at a text, where components follow
 
 module _ (texts : TextSurroundings) (terms : Terms) (at : Text) (behind : List ℕ) where
-  abbrev pub passed : SeenText → Result Ending Errno
-  passed seen = ended terms.mode (middle_trail texts terms (above at) (components_of behind) seen)
+  abbrev pub passed : SeenText → Result Ended Errno
+  passed seen = ended texts terms.mode terms.steady (middle_trail texts terms (above at) (components_of behind) seen)
 
   pub pass_links : (text path : List ℕ) (start : Text) → terms.left ≢ 0 → start ≡ start_of (above at) text → path ≡ text ++ slash ∷ behind
-      → GoesOn texts terms.mode terms.left (passed (Links at text)) (record { at = start; path = path; slash = terms.slash })
+      → GoesOn texts terms.mode terms.left (passed (Links at text)) (record { at = start; path = path; slash = terms.slash; steady = terms.steady })
   pass_links text path start some is joined =
       let looking = looking_texts texts in
       let parts : components_of path ≡ components_of text ++ components_of behind = ap components_of joined ∙ components_seam text behind in
       record {
         some = some;
         ends =
-            ap (ended terms.mode) (onward-less looking terms.mode terms.left (start_of (above at) text) (components_of text ++ components_of behind) terms.slash some)
-            ∙ ap (λ q. ended terms.mode (walk_on looking terms.mode (terms.left - 1) q (components_of text ++ components_of behind) terms.slash)) (sym is)
-            ∙ ap (λ cs. ended terms.mode (walk_on looking terms.mode (terms.left - 1) start cs terms.slash)) (sym parts);
+            ap (ended texts terms.mode terms.steady) (onward-less looking terms.mode terms.left (start_of (above at) text) (components_of text ++ components_of behind) terms.slash some)
+            ∙ ap (λ q. ended texts terms.mode terms.steady (walk_on looking terms.mode (terms.left - 1) q (components_of text ++ components_of behind) terms.slash)) (sym is)
+            ∙ ap (λ cs. ended texts terms.mode terms.steady (walk_on looking terms.mode (terms.left - 1) start cs terms.slash)) (sym parts);
       }
 
   pub pass_loops : (U : Type 0) (Q : U → Type 0) (text : List ℕ) (start : Text) (e : WalkErr) (r : Result U WalkErr) → IsFollowed terms.left start (Err e) → IsErr r → IsErrAnd r (λ f. f ≡ e) → Tells Q (passed (Links at text)) r
   pass_loops U Q text start (fault.Err e) r followed err same =
-      let loops = ap (ended terms.mode) (onward-none (looking_texts texts) terms.mode terms.left (start_of (above at) text) (components_of text ++ components_of behind) terms.slash followed.0) in
+      let loops = ap (ended texts terms.mode terms.steady) (onward-none (looking_texts texts) terms.mode terms.left (start_of (above at) text) (components_of text ++ components_of behind) terms.slash followed.0) in
       tells_error {T = U} Q Q _ (fault.Err e) r (loops ∙ ap Err (sym followed.1)) err same
   pass_loops U Q text start fault.NoMemory r followed err same = tells_want Q _ r err same
 
   pub pass_jumps : (lead : Option (Landing Text Text)) (guest : Text) (path : List ℕ) → IsJumped terms.left lead (Ok guest) → path ≡ behind
-      → GoesOn texts terms.mode terms.left (passed (Jumps at lead)) (record { at = guest; path = path; slash = terms.slash })
+      → GoesOn texts terms.mode terms.left (passed (Jumps at lead)) (record { at = guest; path = path; slash = terms.slash; steady = terms.steady })
   pass_jumps lead guest path jumped same =
       let looking = looking_texts texts in
       let l = map_some (λ (l : Landing Text Text). l.place) lead guest jumped.1 in
@@ -153,16 +156,16 @@ module _ (texts : TextSurroundings) (terms : Terms) (at : Text) (behind : List �
       record {
         some = jumped.0;
         ends =
-            ap (λ o. ended terms.mode (jumps_on terms.left go o)) l.1
-            ∙ ap (ended terms.mode) (jumps_to terms.left go l.0 jumped.0)
-            ∙ ap (ended terms.mode) (onward-less looking terms.mode terms.left l.0.place (components_of behind) terms.slash jumped.0)
-            ∙ ap (λ q. ended terms.mode (walk_on looking terms.mode (terms.left - 1) q (components_of behind) terms.slash)) l.2
-            ∙ ap (λ path. ended terms.mode (walk_on looking terms.mode (terms.left - 1) guest (components_of path) terms.slash)) (sym same);
+            ap (λ o. ended texts terms.mode terms.steady (jumps_on terms.left go o)) l.1
+            ∙ ap (ended texts terms.mode terms.steady) (jumps_to terms.left go l.0 jumped.0)
+            ∙ ap (ended texts terms.mode terms.steady) (onward-less looking terms.mode terms.left l.0.place (components_of behind) terms.slash jumped.0)
+            ∙ ap (λ q. ended texts terms.mode terms.steady (walk_on looking terms.mode (terms.left - 1) q (components_of behind) terms.slash)) l.2
+            ∙ ap (λ path. ended texts terms.mode terms.steady (walk_on looking terms.mode (terms.left - 1) guest (components_of path) terms.slash)) (sym same);
       }
 
   pub pass_nowhere : (U : Type 0) (Q : U → Type 0) (lead : Option (Landing Text Text)) (e : WalkErr) (r : Result U WalkErr) → IsJumped terms.left lead (Err e) → IsErr r → IsErrAnd r (λ f. f ≡ e) → Tells Q (passed (Jumps at lead)) r
   pass_nowhere U Q lead (fault.Err e) r jumped err same =
-      tells_error {T = U} Q Q _ (fault.Err e) r (ap (ended terms.mode) (jumped (λ landing. onward (looking_texts texts) terms.mode terms.left landing.place (components_of behind) terms.slash))) err same
+      tells_error {T = U} Q Q _ (fault.Err e) r (ap (ended texts terms.mode terms.steady) (jumped (λ landing. onward (looking_texts texts) terms.mode terms.left landing.place (components_of behind) terms.slash))) err same
   pass_nowhere U Q lead fault.NoMemory r jumped err same = tells_want Q _ r err same
 
 -- a link of the process directory of which less is left, or that leads nowhere
@@ -177,40 +180,46 @@ jump_nowhere (suc left) (Some l) go some none = absurd cc
 
 -- ---- endings
 
+abbrev pub ended_with : Bool → Ending → Result Ended Errno
+ended_with steady ending = Ok (record { ending = ending; steady = steady })
+
 abbrev pub named_at : Text → Bool → Bool → Ending
 named_at guest slash exists = record { guest = guest; last = last.Name; slash = slash; exists = exists }
 
-pub free_ended : (mode : WalkMode) (dir : Text) (name : List ℕ) (slash : Bool) → may_be_free mode ≡ true → ended mode (ends_missing mode dir (Name name) slash) ≡ Ok (named_at (name ∷ dir) slash false)
-free_ended modes.Look dir name slash free = absurd cc
-free_ended modes.LookLink dir name slash free = absurd cc
-free_ended modes.Name dir name slash free = refl
-free_ended modes.Open dir name slash free = refl
+module _ (texts : TextSurroundings) (steady : Bool) where
+  pub free_ended : (mode : WalkMode) (dir : Text) (name : List ℕ) (slash : Bool) → may_be_free mode ≡ true → ended texts mode steady (ends_missing mode dir (Name name) slash) ≡ ended_with steady (named_at (name ∷ dir) slash false)
+  free_ended modes.Look dir name slash free = absurd cc
+  free_ended modes.LookLink dir name slash free = absurd cc
+  free_ended modes.Name dir name slash free = refl
+  free_ended modes.Open dir name slash free = refl
 
-pub missing_ended : (mode : WalkMode) (dir : Text) (name : List ℕ) (slash : Bool) → may_be_free mode ≡ false → ended mode (ends_missing mode dir (Name name) slash) ≡ Err ENOENT
-missing_ended modes.Look dir name slash free = refl
-missing_ended modes.LookLink dir name slash free = refl
-missing_ended modes.Name dir name slash free = absurd cc
-missing_ended modes.Open dir name slash free = absurd cc
+  pub missing_ended : (mode : WalkMode) (dir : Text) (name : List ℕ) (slash : Bool) → may_be_free mode ≡ false → ended texts mode steady (ends_missing mode dir (Name name) slash) ≡ Err ENOENT
+  missing_ended modes.Look dir name slash free = refl
+  missing_ended modes.LookLink dir name slash free = refl
+  missing_ended modes.Name dir name slash free = absurd cc
+  missing_ended modes.Open dir name slash free = absurd cc
 
-module _ (dir at : Text) (name : List ℕ) (jumped : Bool) where
-  abbrev pub found_at : Bool → Target Text Text
-  found_at slash = record { dir = dir; name = name; last = last.Name; slash = slash; found = Some at; jumped = jumped }
+abbrev pub found_at : (dir at : Text) (name : List ℕ) (jumped slash : Bool) → Target Text Text
+found_at dir at name jumped slash = record { dir = dir; name = name; last = last.Name; slash = slash; found = Some at; jumped = jumped }
 
-  pub kept_ended : (mode : WalkMode) (slash : Bool) → ended mode (ends (found_at slash)) ≡ Ok (named_at at slash true)
-  kept_ended mode slash = ap Ok (sym (named_ending mode dir at name slash jumped))
+module _ (texts : TextSurroundings) (steady : Bool) (dir at : Text) (name : List ℕ) (jumped : Bool) where
+  pub kept_ended : (mode : WalkMode) (slash : Bool) → ended texts mode steady (ends (found_at dir at name jumped slash)) ≡ ended_with steady (named_at at slash true)
+  kept_ended mode slash = ap (ended_with steady) (sym (named_ending mode dir at name slash jumped))
 
-  pub found_ended : (mode : WalkMode) (slash is_dir : Bool) → (wants_directory mode slash && not is_dir) ≡ false → ended mode (ends_found mode is_dir (found_at slash)) ≡ Ok (named_at at slash true)
+  pub found_ended : (mode : WalkMode) (slash is_dir : Bool) → (wants_directory mode slash && not is_dir) ≡ false → ended texts mode steady (ends_found mode is_dir (found_at dir at name jumped slash)) ≡ ended_with steady (named_at at slash true)
   found_ended mode slash is_dir wants = at_wants (wants_directory mode slash) is_dir wants ∙ kept_ended mode slash
     where
-      at_wants : (wants is_dir : Bool) → (wants && not is_dir) ≡ false → ended mode (if wants then (if is_dir then ends (found_at slash) else fails ENOTDIR) else ends (found_at slash)) ≡ ended mode (ends (found_at slash))
+      at_wants : (wants is_dir : Bool) → (wants && not is_dir) ≡ false
+          → ended texts mode steady (if wants then (if is_dir then ends (found_at dir at name jumped slash) else fails ENOTDIR) else ends (found_at dir at name jumped slash)) ≡ ended texts mode steady (ends (found_at dir at name jumped slash))
       at_wants true true h = refl
       at_wants true false h = absurd cc
       at_wants false is_dir h = refl
 
-  pub refused_ended : (mode : WalkMode) (slash is_dir : Bool) → (wants_directory mode slash && not is_dir) ≡ true → ended mode (ends_found mode is_dir (found_at slash)) ≡ Err ENOTDIR
+  pub refused_ended : (mode : WalkMode) (slash is_dir : Bool) → (wants_directory mode slash && not is_dir) ≡ true → ended texts mode steady (ends_found mode is_dir (found_at dir at name jumped slash)) ≡ Err ENOTDIR
   refused_ended mode slash is_dir wants = at_wants (wants_directory mode slash) is_dir wants
     where
-      at_wants : (wants is_dir : Bool) → (wants && not is_dir) ≡ true → ended mode (if wants then (if is_dir then ends (found_at slash) else fails ENOTDIR) else ends (found_at slash)) ≡ Err ENOTDIR
+      at_wants : (wants is_dir : Bool) → (wants && not is_dir) ≡ true
+          → ended texts mode steady (if wants then (if is_dir then ends (found_at dir at name jumped slash) else fails ENOTDIR) else ends (found_at dir at name jumped slash)) ≡ Err ENOTDIR
       at_wants true true h = absurd cc
       at_wants true false h = refl
       at_wants false is_dir h = absurd cc
@@ -218,51 +227,51 @@ module _ (dir at : Text) (name : List ℕ) (jumped : Bool) where
 -- ---- at a last name where a link stands
 
 module _ (texts : TextSurroundings) (terms : Terms) (dir at : Text) (name : List ℕ) where
-  abbrev pub arrived : SeenText → Result Ending Errno
-  arrived seen = ended terms.mode (last_trail texts terms dir (Name name) seen)
+  abbrev pub arrived : SeenText → Result Ended Errno
+  arrived seen = ended texts terms.mode terms.steady (last_trail texts terms dir (Name name) seen)
 
   -- behind a link with a text
   abbrev pub link_on : List ℕ → Trail Text Text
   link_on text = onward (looking_texts texts) terms.mode terms.left (start_of dir text) (components_of text) (terms.slash || has_slash text)
 
-  link_if : (text : List ℕ) (b : Bool) → is_followed terms.mode terms.slash ≡ b → arrived (Links at text) ≡ ended terms.mode (if b then link_on text else ends (found_at dir at name false terms.slash))
-  link_if text b e = ap (λ b. ended terms.mode (if b then link_on text else ends (found_at dir at name false terms.slash))) e
+  link_if : (text : List ℕ) (b : Bool) → is_followed terms.mode terms.slash ≡ b → arrived (Links at text) ≡ ended texts terms.mode terms.steady (if b then link_on text else ends (found_at dir at name false terms.slash))
+  link_if text b e = ap (λ b. ended texts terms.mode terms.steady (if b then link_on text else ends (found_at dir at name false terms.slash))) e
 
-  pub link_kept : (text : List ℕ) → is_followed terms.mode terms.slash ≡ false → arrived (Links at text) ≡ Ok (named_at at terms.slash true)
-  link_kept text e = link_if text false e ∙ kept_ended dir at name false terms.mode terms.slash
+  pub link_kept : (text : List ℕ) → is_followed terms.mode terms.slash ≡ false → arrived (Links at text) ≡ ended_with terms.steady (named_at at terms.slash true)
+  link_kept text e = link_if text false e ∙ kept_ended texts terms.steady dir at name false terms.mode terms.slash
 
   pub link_goes : (text : List ℕ) (start : Text) (closed : Bool) → is_followed terms.mode terms.slash ≡ true → terms.left ≢ 0 → start ≡ start_of dir text → closed ≡ (terms.slash || has_slash text)
-      → GoesOn texts terms.mode terms.left (arrived (Links at text)) (record { at = start; path = text; slash = closed })
+      → GoesOn texts terms.mode terms.left (arrived (Links at text)) (record { at = start; path = text; slash = closed; steady = terms.steady })
   link_goes text start closed followed some is behind =
       let looking = looking_texts texts in
       record {
         some = some;
         ends =
             link_if text true followed
-            ∙ ap (ended terms.mode) (onward-less looking terms.mode terms.left (start_of dir text) (components_of text) (terms.slash || has_slash text) some)
-            ∙ ap (λ q. ended terms.mode (walk_on looking terms.mode (terms.left - 1) q (components_of text) (terms.slash || has_slash text))) (sym is)
-            ∙ ap (λ b. ended terms.mode (walk_on looking terms.mode (terms.left - 1) start (components_of text) b)) (sym behind);
+            ∙ ap (ended texts terms.mode terms.steady) (onward-less looking terms.mode terms.left (start_of dir text) (components_of text) (terms.slash || has_slash text) some)
+            ∙ ap (λ q. ended texts terms.mode terms.steady (walk_on looking terms.mode (terms.left - 1) q (components_of text) (terms.slash || has_slash text))) (sym is)
+            ∙ ap (λ b. ended texts terms.mode terms.steady (walk_on looking terms.mode (terms.left - 1) start (components_of text) b)) (sym behind);
       }
 
   pub link_loops : (U : Type 0) (Q : U → Type 0) (text : List ℕ) (start : Text) (e : WalkErr) (r : Result U WalkErr) → is_followed terms.mode terms.slash ≡ true
       → IsFollowed terms.left start (Err e) → IsErr r → IsErrAnd r (λ f. f ≡ e) → Tells Q (arrived (Links at text)) r
   link_loops U Q text start (fault.Err e) r follows followed err same =
-      let loops = ap (ended terms.mode) (onward-none (looking_texts texts) terms.mode terms.left (start_of dir text) (components_of text) (terms.slash || has_slash text) followed.0) in
+      let loops = ap (ended texts terms.mode terms.steady) (onward-none (looking_texts texts) terms.mode terms.left (start_of dir text) (components_of text) (terms.slash || has_slash text) followed.0) in
       tells_error {T = U} Q Q _ (fault.Err e) r (link_if text true follows ∙ loops ∙ ap Err (sym followed.1)) err same
   link_loops U Q text start fault.NoMemory r follows followed err same = tells_want Q _ r err same
 
   -- a link of the process directory
   jump_if : (lead : Option (Landing Text Text)) (b : Bool) → is_followed terms.mode terms.slash ≡ b
-      → arrived (Jumps at lead) ≡ ended terms.mode (if b then jumps_on terms.left (ends_landed terms.mode terms.slash) lead else ends (found_at dir at name false terms.slash))
-  jump_if lead b e = ap (λ b. ended terms.mode (if b then jumps_on terms.left (ends_landed terms.mode terms.slash) lead else ends (found_at dir at name false terms.slash))) e
+      → arrived (Jumps at lead) ≡ ended texts terms.mode terms.steady (if b then jumps_on terms.left (ends_landed terms.mode terms.slash) lead else ends (found_at dir at name false terms.slash))
+  jump_if lead b e = ap (λ b. ended texts terms.mode terms.steady (if b then jumps_on terms.left (ends_landed terms.mode terms.slash) lead else ends (found_at dir at name false terms.slash))) e
 
-  pub jump_kept : (lead : Option (Landing Text Text)) → is_followed terms.mode terms.slash ≡ false → arrived (Jumps at lead) ≡ Ok (named_at at terms.slash true)
-  jump_kept lead e = jump_if lead false e ∙ kept_ended dir at name false terms.mode terms.slash
+  pub jump_kept : (lead : Option (Landing Text Text)) → is_followed terms.mode terms.slash ≡ false → arrived (Jumps at lead) ≡ ended_with terms.steady (named_at at terms.slash true)
+  jump_kept lead e = jump_if lead false e ∙ kept_ended texts terms.steady dir at name false terms.mode terms.slash
 
   pub jump_lost : (U : Type 0) (Q : U → Type 0) (lead : Option (Landing Text Text)) (e : WalkErr) (r : Result U WalkErr) → is_followed terms.mode terms.slash ≡ true
       → IsJumped terms.left lead (Err e) → IsErr r → IsErrAnd r (λ f. f ≡ e) → Tells Q (arrived (Jumps at lead)) r
   jump_lost U Q lead (fault.Err e) r follows jumped err same =
-      tells_error {T = U} Q Q _ (fault.Err e) r (jump_if lead true follows ∙ ap (ended terms.mode) (jumped (ends_landed terms.mode terms.slash))) err same
+      tells_error {T = U} Q Q _ (fault.Err e) r (jump_if lead true follows ∙ ap (ended texts terms.mode terms.steady) (jumped (ends_landed terms.mode terms.slash))) err same
   jump_lost U Q lead fault.NoMemory r follows jumped err same = tells_want Q _ r err same
 
   -- where it leads
@@ -273,25 +282,25 @@ module _ (texts : TextSurroundings) (terms : Terms) (dir at : Text) (name : List
     pub landing : (l : Landing Text Text) × (lead ≡ Some l) × (l.place ≡ guest)
     landing = map_some (λ (l : Landing Text Text). l.place) lead guest jumped.1
 
-    landed_on : arrived (Jumps at lead) ≡ ended terms.mode (ends_landed terms.mode terms.slash landing.0)
+    landed_on : arrived (Jumps at lead) ≡ ended texts terms.mode terms.steady (ends_landed terms.mode terms.slash landing.0)
     landed_on =
-        jump_if lead true follows ∙ ap (λ o. ended terms.mode (jumps_on terms.left (ends_landed terms.mode terms.slash) o)) landing.1
-        ∙ ap (ended terms.mode) (jumps_to terms.left (ends_landed terms.mode terms.slash) landing.0 jumped.0)
+        jump_if lead true follows ∙ ap (λ o. ended texts terms.mode terms.steady (jumps_on terms.left (ends_landed terms.mode terms.slash) o)) landing.1
+        ∙ ap (ended texts terms.mode terms.steady) (jumps_to terms.left (ends_landed terms.mode terms.slash) landing.0 jumped.0)
 
-    pub lands : (wants_directory terms.mode terms.slash && not landing.0.is_dir) ≡ false → arrived (Jumps at lead) ≡ Ok (named_at guest terms.slash true)
+    pub lands : (wants_directory terms.mode terms.slash && not landing.0.is_dir) ≡ false → arrived (Jumps at lead) ≡ ended_with terms.steady (named_at guest terms.slash true)
     lands wants =
         let l = landing.0 in
-        landed_on ∙ found_ended l.dir l.found l.name true terms.mode terms.slash l.is_dir wants
-        ∙ ap (λ at. Ok (named_at at terms.slash true)) ((jump_shows texts l host landing.1).0 ∙ landing.2)
+        landed_on ∙ found_ended texts terms.steady l.dir l.found l.name true terms.mode terms.slash l.is_dir wants
+        ∙ ap (λ at. ended_with terms.steady (named_at at terms.slash true)) ((jump_shows texts l host landing.1).0 ∙ landing.2)
 
     is_dir_told : landing.0.is_dir ≡ is_dir_kind (texts.peeked.kind (text_of (host_of texts.bindings guest)))
     is_dir_told = (jump_shows texts landing.0 host landing.1).1 ∙ ap (λ t. is_dir_kind (texts.peeked.kind (text_of (host_of texts.bindings t)))) landing.2
 
     -- no directory is asked for, or it is one
-    pub lands_unasked : wants_directory terms.mode terms.slash ≡ false → arrived (Jumps at lead) ≡ Ok (named_at guest terms.slash true)
+    pub lands_unasked : wants_directory terms.mode terms.slash ≡ false → arrived (Jumps at lead) ≡ ended_with terms.steady (named_at guest terms.slash true)
     lands_unasked none = lands (ap (λ w. w && not landing.0.is_dir) none)
 
-    pub lands_in : is_dir_kind (texts.peeked.kind (text_of (host_of texts.bindings guest))) ≡ true → arrived (Jumps at lead) ≡ Ok (named_at guest terms.slash true)
+    pub lands_in : is_dir_kind (texts.peeked.kind (text_of (host_of texts.bindings guest))) ≡ true → arrived (Jumps at lead) ≡ ended_with terms.steady (named_at guest terms.slash true)
     lands_in dir = lands (ap (λ d. wants_directory terms.mode terms.slash && not d) (is_dir_told ∙ dir) ∙ never (wants_directory terms.mode terms.slash))
       where
         never : (b : Bool) → (b && false) ≡ false
@@ -302,23 +311,23 @@ module _ (texts : TextSurroundings) (terms : Terms) (dir at : Text) (name : List
     lands_beside wants other =
         let l = landing.0 in
         let asks : (wants_directory terms.mode terms.slash && not l.is_dir) ≡ true = ap (λ w. w && not l.is_dir) wants ∙ ap not (is_dir_told ∙ other) in
-        landed_on ∙ refused_ended l.dir l.found l.name true terms.mode terms.slash l.is_dir asks
+        landed_on ∙ refused_ended texts terms.steady l.dir l.found l.name true terms.mode terms.slash l.is_dir asks
 
 -- ---- along a path
 
 module _ (texts : TextSurroundings) (terms : Terms) (t : Text) where
-  pub along_last : (c : Component) → ended terms.mode (left_on texts terms.mode terms.left t (c ∷ []) terms.slash) ≡ ended terms.mode (last_trail texts terms t c (look_text texts t c))
-  along_last c = ap (ended terms.mode) (walk-last (looking_texts texts) terms.mode terms.left t c terms.slash)
+  pub along_last : (c : Component) → ended texts terms.mode terms.steady (left_on texts terms.mode terms.left t (c ∷ []) terms.slash) ≡ ended texts terms.mode (looked texts terms.steady t c) (last_trail texts terms t c (look_text texts t c))
+  along_last c = ap (ended texts terms.mode terms.steady) (walk-last (looking_texts texts) terms.mode terms.left t c terms.slash)
 
   pub along_middle : (c d : Component) (rest cs : List Component) → rest ≡ d ∷ cs
-      → ended terms.mode (left_on texts terms.mode terms.left t (c ∷ rest) terms.slash) ≡ ended terms.mode (middle_trail texts terms t rest (look_text texts t c))
+      → ended texts terms.mode terms.steady (left_on texts terms.mode terms.left t (c ∷ rest) terms.slash) ≡ ended texts terms.mode (looked texts terms.steady t c) (middle_trail texts terms t rest (look_text texts t c))
   along_middle c d rest cs e =
-      ap (λ cs. ended terms.mode (left_on texts terms.mode terms.left t (c ∷ cs) terms.slash)) e
-      ∙ ap (ended terms.mode) (walk-middle (looking_texts texts) terms.mode terms.left t c d cs terms.slash)
-      ∙ ap (λ cs. ended terms.mode (middle_trail texts terms t cs (look_text texts t c))) (sym e)
+      ap (λ cs. ended texts terms.mode terms.steady (left_on texts terms.mode terms.left t (c ∷ cs) terms.slash)) e
+      ∙ ap (ended texts terms.mode terms.steady) (walk-middle (looking_texts texts) terms.mode terms.left t c d cs terms.slash)
+      ∙ ap (λ cs. ended texts terms.mode (looked texts terms.steady t c) (middle_trail texts terms t cs (look_text texts t c))) (sym e)
 
-pub way_same : (texts : TextSurroundings) (mode : WalkMode) (left : ℕ) (whole same : Result Ending Errno) (r : Result Way WalkErr) → whole ≡ same → Tells (WayIs texts mode left whole) whole r → Tells (WayIs texts mode left same) same r
-way_same texts mode left whole same r e h = let P : Result Ending Errno → Type 0 = λ whole. Tells (WayIs texts mode left whole) whole r in subst P e h
+pub way_same : (texts : TextSurroundings) (mode : WalkMode) (left : ℕ) (whole same : Result Ended Errno) (r : Result Way WalkErr) → whole ≡ same → Tells (WayIs texts mode left whole) whole r → Tells (WayIs texts mode left same) same r
+way_same texts mode left whole same r e h = let P : Result Ended Errno → Type 0 = λ whole. Tells (WayIs texts mode left whole) whole r in subst P e h
 
-pub goes_same : (texts : TextSurroundings) (mode : WalkMode) (left : ℕ) (whole same : Result Ending Errno) (on : Onward) → whole ≡ same → GoesOn texts mode left whole on → GoesOn texts mode left same on
-goes_same texts mode left whole same on e h = let P : Result Ending Errno → Type 0 = λ whole. GoesOn texts mode left whole on in subst P e h
+pub goes_same : (texts : TextSurroundings) (mode : WalkMode) (left : ℕ) (whole same : Result Ended Errno) (on : Onward) → whole ≡ same → GoesOn texts mode left whole on → GoesOn texts mode left same on
+goes_same texts mode left whole same on e h = let P : Result Ended Errno → Type 0 = λ whole. GoesOn texts mode left whole on in subst P e h

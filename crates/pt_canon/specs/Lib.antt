@@ -3,10 +3,14 @@ pub use Rattle.pt_bind.specs as pt_bind
 pub mod Canon
 pub mod Components
 pub mod Kept
+pub mod Keys
 pub mod Laws
 pub mod Leaving
 pub mod LookedPaths
 pub mod Looks
 pub mod ProcessLinks
+pub mod Remembering
+pub mod Steadily
 pub mod Steps
 pub mod TextWalk
+pub mod Walked

@@ -10,10 +10,11 @@ use Rattle.pt_bind.specs.pr_base.declared.errno.Errno.TheVariants.{ELOOP}
 use Rattle.pt_bind.specs.pr_base.declared.path.WalkMode.{WalkMode}
 use Rattle.pt_canon.specs.Canon.{ending_of}
 use Rattle.pt_canon.specs.Looks.{IsKnown, led}
+use Rattle.pt_canon.specs.Steadily.{WasAsked, behind_looks}
 use Rattle.pt_canon.specs.TextWalk.{TextSurroundings, SeenText, looking_texts}
 use Rattle.pt_canon.specs.declared.canon.WalkErr.{WalkErr}
 use Rattle.pt_canon.specs.declared.canon.WalkErr.TheVariants as fault
-use Rattle.pt_canon.specs.declared.ending.Ending.{Ending}
+use Rattle.pt_canon.specs.declared.ending.Ended.{Ended}
 use Rattle.pt_canon.specs.declared.walk.Onward.{Onward}
 use Rattle.pt_canon.specs.declared.walk.Passed.{Passed}
 use Rattle.pt_canon.specs.declared.walk.Passed.TheVariants as passed
@@ -21,13 +22,14 @@ use Rattle.pt_canon.specs.declared.walk.Terms.{Terms}
 use Rattle.pt_canon.specs.declared.walk.Way.{Way}
 use Rattle.pt_canon.specs.declared.walk.Way.TheVariants as way
 
--- what is left of a walk, as where it ends
-abbrev pub ended_by : WalkMode → Result (Target Text Text) Errno → Result Ending Errno
-ended_by mode (Ok target) = Ok (ending_of mode target)
-ended_by mode (Err e) = Err e
+-- what is left of a walk, as where it ends and whether it is steady
+abbrev pub ended_by : WalkMode → Bool → Result (Target Text Text) Errno → Result Ended Errno
+ended_by mode steady (Ok target) = Ok (record { ending = ending_of mode target; steady = steady })
+ended_by mode steady (Err e) = Err e
 
-abbrev pub ended : WalkMode → Trail Text Text → Result Ending Errno
-ended mode trail = ended_by mode trail.answer
+-- by whether it is so far
+abbrev pub ended : TextSurroundings → WalkMode → Bool → Trail Text Text → Result Ended Errno
+ended texts mode steady trail = ended_by mode (behind_looks texts steady trail.looks) trail.answer
 
 -- along components from a text
 abbrev pub left_on : TextSurroundings → WalkMode → ℕ → Text → List Component → Bool → Trail Text Text
@@ -43,31 +45,32 @@ last_trail texts terms t c seen = laws.last_trail (looking_texts texts) terms.mo
 -- ---- what a step answers
 
 -- what holds of its answer; an error is where the walk ends, but for want of memory
-abbrev pub Tells : {T : Type 0} → (T → Type 0) → Result Ending Errno → Result T WalkErr → Type 0
+abbrev pub Tells : {T : Type 0} → (T → Type 0) → Result Ended Errno → Result T WalkErr → Type 0
 Tells P whole (Ok x) = P x
 Tells P whole (Err (fault.Err e)) = whole ≡ Err e
 Tells P whole (Err fault.NoMemory) = Unit {0}
 
 -- a walk that goes on behind a link, of which one less may follow, ends as the whole one does
-pub record GoesOn (texts : TextSurroundings) (mode : WalkMode) (left : ℕ) (whole : Result Ending Errno) (on : Onward) : Type 0 where
+pub record GoesOn (texts : TextSurroundings) (mode : WalkMode) (left : ℕ) (whole : Result Ended Errno) (on : Onward) : Type 0 where
   pub some : left ≢ 0
-  pub ends : whole ≡ ended mode (left_on texts mode (left - 1) on.at (components_of on.path) on.slash)
+  pub ends : whole ≡ ended texts mode on.steady (left_on texts mode (left - 1) on.at (components_of on.path) on.slash)
 
-abbrev pub WayIs : TextSurroundings → WalkMode → ℕ → Result Ending Errno → Way → Type 0
-WayIs texts mode left whole (way.Ends ending) = whole ≡ Ok ending
+abbrev pub WayIs : TextSurroundings → WalkMode → ℕ → Result Ended Errno → Way → Type 0
+WayIs texts mode left whole (way.Ends ended) = whole ≡ Ok ended
 WayIs texts mode left whole (way.Goes on) = GoesOn texts mode left whole on
 
--- of a path up to its end, or up to the first link that is followed
-abbrev pub IsWay : TextSurroundings → WalkMode → ℕ → Trail Text Text → Result Way WalkErr → Type 0
-IsWay texts mode left trail result = Tells (WayIs texts mode left (ended mode trail)) (ended mode trail) result
+-- of a path up to its end, or up to the first link that is followed, by whether the walk is steady before that
+abbrev pub IsWay : TextSurroundings → WalkMode → ℕ → Bool → Trail Text Text → Result Way WalkErr → Type 0
+IsWay texts mode left steady trail result = Tells (WayIs texts mode left (ended texts mode steady trail)) (ended texts mode steady trail) result
 
-abbrev pub PassedIs : TextSurroundings → Terms → List Component → Result Ending Errno → Passed → Type 0
-PassedIs texts terms rest whole (passed.On at known) = (whole ≡ ended terms.mode (left_on texts terms.mode terms.left at rest terms.slash)) × IsKnown texts at known
+abbrev pub PassedIs : TextSurroundings → Terms → List Component → Result Ended Errno → Passed → Type 0
+PassedIs texts terms rest whole (passed.On at known steady) =
+    (whole ≡ ended texts terms.mode steady (left_on texts terms.mode terms.left at rest terms.slash)) × (IsKnown texts at known × WasAsked texts at known steady)
 PassedIs texts terms rest whole (passed.Off on) = GoesOn texts terms.mode terms.left whole on
 
 -- of a component that others follow
-abbrev pub IsPassed : TextSurroundings → Terms → List Component → Trail Text Text → Result Passed WalkErr → Type 0
-IsPassed texts terms rest trail result = Tells (PassedIs texts terms rest (ended terms.mode trail)) (ended terms.mode trail) result
+abbrev pub IsPassed : TextSurroundings → Terms → List Component → Bool → Trail Text Text → Result Passed WalkErr → Type 0
+IsPassed texts terms rest steady trail result = Tells (PassedIs texts terms rest (ended texts terms.mode steady trail)) (ended texts terms.mode steady trail) result
 
 -- ---- links
 

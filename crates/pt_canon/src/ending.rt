@@ -12,3 +12,10 @@ pub(crate) struct Ending {
     pub(crate) slash: bool,
     pub(crate) exists: bool,
 }
+
+/// The same, and whether the walk there is steady: each host path at which it looked is.
+#[derive(Drop)]
+pub(crate) struct Ended {
+    pub(crate) ending: Ending,
+    pub(crate) steady: bool,
+}

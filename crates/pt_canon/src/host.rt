@@ -71,6 +71,29 @@ pub(crate) fn find_itself<K: Peeks>(
     Ok(())
 }
 
+/// Whether the walk to a host text is steady.
+pub(crate) fn is_steady<K: Peeks>(kernel: &mut K, host: &[u8]) -> Result<bool, NoMemory>
+    requires { IsWritten host.now }
+    ensures answer { IfOk result (λ steady. steady ≡ (K.peeked kernel.old).steady host.now) }
+    ensures kernel { OnlyPeeks K.peeked K.kept kernel.old kernel.new }
+{
+    kernel.steady(host)
+}
+
+/// Whether the walk to the directory at a host text, looked up in itself, is steady.
+pub(crate) fn is_itself_steady<K: Peeks>(
+    alloc: Global,
+    kernel: &mut K,
+    host: &[u8],
+) -> Result<bool, NoMemory>
+    requires { IsWritten host.now }
+    ensures answer { IfOk result (λ steady. steady ≡ (K.peeked kernel.old).steady (itself_in (names_of host.now))) }
+    ensures kernel { OnlyPeeks K.peeked K.kept kernel.old kernel.new }
+{
+    let itself = itself_in(alloc, host)?;
+    kernel.steady(itself.as_slice())
+}
+
 /// The path of a directory itself, looked up in it, by the directory's host text.
 fn itself_in(alloc: Global, host: &[u8]) -> Result<Bytes, NoMemory>
     requires { IsWritten host.now }

@@ -1,5 +1,5 @@
 //! Looking at guest texts through the kernel that runs the process.
-ghost use Rattle.std.specs.Prelude.{◌≡◌, Ok, IfOk, IfSome};
+ghost use Rattle.std.specs.Prelude.{◌≡◌, ◌&&◌, true, Ok, IfOk, IfSome};
 ghost use Rattle.std.specs.Option.{option_map};
 ghost use Rattle.pt_bind.specs.pr_base.Paths.{text_of};
 ghost use Rattle.pt_bind.specs.Binding.{IsWritten, guest_of, host_of, names_of, rows_of};
@@ -7,11 +7,14 @@ ghost use Rattle.pt_canon.specs.Laws.{host_bytes};
 ghost use Rattle.pt_canon.specs.ProcessLinks.{jump_at, landing_of, link_guest, link_name};
 ghost use Rattle.pt_canon.specs.TextWalk.{seen_kind, seen_text};
 ghost use Rattle.pt_canon.specs.Looks.{texts_in, led, IsKnown, IsEntered, IsSeen};
+ghost use Rattle.pt_canon.specs.Steadily.{WasAsked, entered};
 ghost use Rattle.pt_canon.specs.Leaving.{OnlyPeeks};
 
 use crate::canon::WalkErr;
 use crate::guest::Guest;
-use crate::host::{find_directory, find_itself, kind_at, link_text_at};
+use crate::host::{
+    find_directory, find_itself, is_itself_steady, is_steady, kind_at, link_text_at,
+};
 use crate::link::{ProcessLink, link_at};
 use crate::sight::{Known, Sight, unseen};
 use pt_bind::below::pr_base::{Bytes, NoMemory, PeekKind, Peeks};
@@ -60,6 +63,62 @@ impl<'a> Translation<'a> {
                 find_itself(self.alloc, kernel, host.as_slice())
             }
         }
+    }
+
+    /// Whether a walk is steady still that looks into a guest text, by whether it is so far. Of what isn't steady nothing
+    /// is asked, nor again what was asked before.
+    pub(crate) fn steady_in<K: Peeks>(
+        &self,
+        kernel: &mut K,
+        at: &Guest,
+        known: Known,
+        steady: bool,
+    ) -> Result<bool, NoMemory>
+        requires { WasAsked (texts_in self.now (K.peeked kernel.old)) at.now known steady }
+        ensures answer { IfOk result (λ still. still ≡ entered (texts_in self.now (K.peeked kernel.old)) steady at.now) }
+        ensures kernel { OnlyPeeks K.peeked K.kept kernel.old kernel.new }
+    {
+        if !steady {
+            return Ok(false);
+        }
+        match known {
+            Known::Open => Ok(true),
+            Known::Directory => {
+                let host = self.host(at)?;
+                is_itself_steady(self.alloc, kernel, host.as_slice())
+            }
+            Known::Nothing => self.all_steady_in(kernel, at),
+        }
+    }
+
+    /// Whether a guest text is steady, and itself in it.
+    fn all_steady_in<K: Peeks>(&self, kernel: &mut K, at: &Guest) -> Result<bool, NoMemory>
+        ensures answer { IfOk result (λ still. still ≡ entered (texts_in self.now (K.peeked kernel.old)) true at.now) }
+        ensures kernel { OnlyPeeks K.peeked K.kept kernel.old kernel.new }
+    {
+        let host = self.host(at)?;
+        let steady = is_steady(kernel, host.as_slice())?;
+        if !steady {
+            return Ok(false);
+        }
+        is_itself_steady(self.alloc, kernel, host.as_slice())
+    }
+
+    /// Whether a walk is steady still that looks at a guest text, by whether it is so far.
+    pub(crate) fn steady_at<K: Peeks>(
+        &self,
+        kernel: &mut K,
+        at: &Guest,
+        steady: bool,
+    ) -> Result<bool, NoMemory>
+        ensures answer { let texts = texts_in self.now (K.peeked kernel.old) in IfOk result (λ still. still ≡ (steady && texts.peeked.steady (host_bytes texts at.now))) }
+        ensures kernel { OnlyPeeks K.peeked K.kept kernel.old kernel.new }
+    {
+        if !steady {
+            return Ok(false);
+        }
+        let host = self.host(at)?;
+        is_steady(kernel, host.as_slice())
     }
 
     /// What stands at a guest text of which the directory may be searched.

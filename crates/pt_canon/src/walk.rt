@@ -10,12 +10,13 @@ ghost use Rattle.pt_canon.specs.ProcessLinks.{above, jump_at};
 ghost use Rattle.pt_canon.specs.TextWalk.{TextSurroundings, look_text, seen_text, text_walk};
 ghost use Rattle.pt_canon.specs.Looks.{texts_in, sight_seen, IsKnown};
 ghost use Rattle.pt_canon.specs.declared.sight.Sight.TheVariants as sights;
+ghost use Rattle.pt_canon.specs.Steadily.{WasAsked, looked};
 ghost use Rattle.pt_canon.specs.Steps.{ended, left_on, middle_trail, last_trail, start_of, IsFollowed, IsJumped, IsPassed, IsWay};
 ghost use Rattle.pt_canon.specs.Leaving.{OnlyPeeks};
 
 use crate::canon::{Canon, WalkErr};
 use crate::component::{Component, component_of};
-use crate::ending::Ending;
+use crate::ending::{Ended, Ending};
 use crate::guest::Guest;
 use crate::host::is_directory;
 use crate::sight::{Known, Sight};
@@ -24,26 +25,28 @@ use pt_bind::below::pr_base::limits::MOST_LINKS;
 use pt_bind::below::pr_base::{Bytes, Errno, Last, NoMemory, Peeks, WalkMode, components};
 use std::alloc::Global;
 
-/// Where a walk goes on behind a link that it followed: from which guest text along which path, and whether a slash
-/// stands behind the last component.
+/// Where a walk goes on behind a link that it followed: from which guest text along which path, whether a slash
+/// stands behind the last component, and whether the walk is steady so far.
 #[derive(Drop)]
 pub(crate) struct Onward {
     pub(crate) at: Guest,
     pub(crate) path: Bytes,
     pub(crate) slash: bool,
+    pub(crate) steady: bool,
 }
 
 /// What comes of a path up to its end, or up to the first link that is followed.
 #[derive(Drop)]
 pub(crate) enum Way {
-    Ends(Ending),
+    Ends(Ended),
     Goes(Onward),
 }
 
-/// What comes of a component that others follow: the walk goes on along the same path, or behind a link.
+/// What comes of a component that others follow: the walk goes on along the same path, steady so far or not, or behind
+/// a link.
 #[derive(Drop)]
 pub(crate) enum Passed {
-    On(Guest, Known),
+    On(Guest, Known, bool),
     Off(Onward),
 }
 
@@ -55,6 +58,8 @@ pub(crate) struct Terms {
     pub(crate) left: u32,
     /// A slash stands behind the last component.
     pub(crate) slash: bool,
+    /// The walk is steady so far, and that is asked at all.
+    pub(crate) steady: bool,
 }
 
 /// Whether a link is followed as the last component.
@@ -89,72 +94,91 @@ fn may_be_free(mode: WalkMode) -> bool
 }
 
 /// A path without a component ends where it begins. Where a name may be free, none was asked for.
-fn ends_here(at: Guest, terms: Terms) -> Ending
-    ensures { result ≡ ending_of terms.mode (record { dir = at; name = []; last = last.Root; slash = terms.slash; found = Some at; jumped = false }) }
+fn ends_here(at: Guest, terms: Terms) -> Ended
+    ensures { result ≡ record { ending = ending_of terms.mode (record { dir = at; name = []; last = last.Root; slash = terms.slash; found = Some at; jumped = false }); steady = terms.steady } }
 {
-    Ending {
+    let ending = Ending {
         guest: at,
         last: Last::Root,
         slash: terms.slash,
         exists: !may_be_free(terms.mode),
+    };
+    Ended {
+        ending,
+        steady: terms.steady,
     }
 }
 
 /// A last `.`. Where a name may be free, none was asked for.
-fn ends_at_dot(at: Guest, terms: Terms) -> Ending
-    ensures { result ≡ ending_of terms.mode (target_at at Dot terms.slash (Some at)) }
+fn ends_at_dot(at: Guest, terms: Terms) -> Ended
+    ensures { result ≡ record { ending = ending_of terms.mode (target_at at Dot terms.slash (Some at)); steady = terms.steady } }
 {
-    Ending {
+    let ending = Ending {
         guest: at,
         last: Last::Dot,
         slash: terms.slash,
         exists: !may_be_free(terms.mode),
+    };
+    Ended {
+        ending,
+        steady: terms.steady,
     }
 }
 
 /// A last `..`. Where a name may be free, none was asked for, and the directory is the one in which it stands.
-fn ends_at_dot_dot(at: Guest, terms: Terms) -> Ending
-    ensures { result ≡ ending_of terms.mode (target_at at DotDot terms.slash (Some (above at))) }
+fn ends_at_dot_dot(at: Guest, terms: Terms) -> Ended
+    ensures { result ≡ record { ending = ending_of terms.mode (target_at at DotDot terms.slash (Some (above at))); steady = terms.steady } }
 {
     let free = may_be_free(terms.mode);
-    Ending {
+    let ending = Ending {
         guest: if free { at } else { at.above() },
         last: Last::DotDot,
         slash: terms.slash,
         exists: !free,
+    };
+    Ended {
+        ending,
+        steady: terms.steady,
     }
 }
 
 /// A last name, by the guest text of what stands there or could.
-fn ends_at_name(guest: Guest, terms: Terms, exists: bool) -> Ending
-    ensures { result ≡ record { guest = guest; last = last.Name; slash = terms.slash; exists = exists } }
+fn ends_at_name(guest: Guest, terms: Terms, exists: bool) -> Ended
+    ensures { result ≡ record { ending = record { guest = guest; last = last.Name; slash = terms.slash; exists = exists }; steady = terms.steady } }
 {
-    Ending {
+    let ending = Ending {
         guest,
         last: Last::Name,
         slash: terms.slash,
         exists,
+    };
+    Ended {
+        ending,
+        steady: terms.steady,
     }
 }
 
 impl<'a> Translation<'a> {
-    /// Where a path leads from a guest text.
+    /// Where a path leads from a guest text, and whether the walk is steady. That is asked only where `asks` says so; else
+    /// none is.
     pub(crate) fn walk<K: Peeks>(
         &self,
         kernel: &mut K,
         base: &[u8],
         path: &[u8],
         mode: WalkMode,
-    ) -> Result<Ending, WalkErr>
+        asks: bool,
+    ) -> Result<Ended, WalkErr>
         requires { IsWritten base.now }
-        ensures answer { IsAnswer (ended mode (text_walk (texts_in self.now (K.peeked kernel.old)) mode (names_of base.now) path.now)) result }
+        ensures answer { let texts = texts_in self.now (K.peeked kernel.old) in
+            IsAnswer (ended texts mode asks (text_walk texts mode (names_of base.now) path.now)) result }
         ensures kernel { OnlyPeeks K.peeked K.kept kernel.old kernel.new }
     {
-        let mut onward = self.begin(base, path)?;
+        let mut onward = self.begin(base, path, asks)?;
         let mut left = MOST_LINKS;
         'links: loop {
             match self.along(kernel, onward, mode, left)? {
-                Way::Ends(ending) => return Ok(ending),
+                Way::Ends(ended) => return Ok(ended),
                 Way::Goes(on) => {
                     onward = on;
                     left -= 1;
@@ -164,9 +188,9 @@ impl<'a> Translation<'a> {
     }
 
     /// Where a walk begins.
-    fn begin(&self, base: &[u8], path: &[u8]) -> Result<Onward, NoMemory>
+    fn begin(&self, base: &[u8], path: &[u8], steady: bool) -> Result<Onward, NoMemory>
         requires { IsWritten base.now }
-        ensures { IfOk result (λ onward. onward ≡ record { at = start_of (names_of base.now) path.now; path = path.now; slash = has_slash path.now }) }
+        ensures { IfOk result (λ onward. onward ≡ record { at = start_of (names_of base.now) path.now; path = path.now; slash = has_slash path.now; steady = steady }) }
     {
         let parts = components(path);
         let at = if parts.absolute() {
@@ -179,6 +203,7 @@ impl<'a> Translation<'a> {
             at,
             path,
             slash: parts.slash(),
+            steady,
         })
     }
 
@@ -191,30 +216,43 @@ impl<'a> Translation<'a> {
         left: u32,
     ) -> Result<Way, WalkErr>
         ensures answer { let texts = texts_in self.now (K.peeked kernel.old) in
-            IsWay texts mode left (left_on texts mode left onward.at (components_of onward.path) onward.slash) result }
+            IsWay texts mode left onward.steady (left_on texts mode left onward.at (components_of onward.path) onward.slash) result }
         ensures kernel { OnlyPeeks K.peeked K.kept kernel.old kernel.new }
     {
         let Onward {
             mut at,
             path,
             slash,
+            mut steady,
         } = onward;
-        let terms = Terms { mode, left, slash };
         let mut known = Known::Nothing;
         let mut parts = components(path.as_slice()).into_iter();
         let Some(mut part) = parts.next() else {
+            let terms = Terms {
+                mode,
+                left,
+                slash,
+                steady,
+            };
             return Ok(Way::Ends(ends_here(at, terms)));
         };
         'parts: loop {
+            let terms = Terms {
+                mode,
+                left,
+                slash,
+                steady,
+            };
             let behind = parts.rest();
             let component = component_of(part);
             let Some(following) = parts.next() else {
                 return self.at_last(kernel, at, known, component, terms);
             };
             match self.in_middle(kernel, at, known, component, behind, terms)? {
-                Passed::On(on, found) => {
+                Passed::On(on, found, still) => {
                     at = on;
                     known = found;
+                    steady = still;
                     part = following;
                 }
                 Passed::Off(on) => return Ok(Way::Goes(on)),
@@ -233,19 +271,26 @@ impl<'a> Translation<'a> {
         terms: Terms,
     ) -> Result<Passed, WalkErr>
         requires known { IsKnown (texts_in self.now (K.peeked kernel.old)) at known }
+        requires asked { WasAsked (texts_in self.now (K.peeked kernel.old)) at known terms.steady }
         requires component { IsComponent (component_data component) }
-        ensures answer { let texts = texts_in self.now (K.peeked kernel.old) in let rest = components_of behind.now in
-            IsPassed texts terms rest (middle_trail texts terms at rest (look_text texts at (component_data component.entry))) result }
+        ensures answer { let texts = texts_in self.now (K.peeked kernel.old) in let rest = components_of behind.now in let c = component_data component.entry in
+            IsPassed texts terms rest (looked texts terms.steady at c) (middle_trail texts terms at rest (look_text texts at c)) result }
         ensures kernel { OnlyPeeks K.peeked K.kept kernel.old kernel.new }
     {
         self.enter(kernel, &at, known)?;
+        let steady = self.steady_in(kernel, &at, known, terms.steady)?;
         match component {
-            Component::Dot => Ok(Passed::On(at, Known::Open)),
-            Component::DotDot => Ok(Passed::On(at.above(), Known::Nothing)),
+            Component::Dot => Ok(Passed::On(at, Known::Open, steady)),
+            Component::DotDot => Ok(Passed::On(at.above(), Known::Nothing, steady)),
             Component::Name(name) => {
                 let entry = at.child(name)?;
+                let still = self.steady_at(kernel, &entry, steady)?;
                 let sight = self.see(kernel, &entry)?;
-                self.pass(kernel, entry, sight, behind, terms)
+                let ahead = Terms {
+                    steady: still,
+                    ..terms
+                };
+                self.pass(kernel, entry, sight, behind, ahead)
             }
         }
     }
@@ -259,15 +304,16 @@ impl<'a> Translation<'a> {
         behind: &[u8],
         terms: Terms,
     ) -> Result<Passed, WalkErr>
-        requires { let texts = texts_in self.now (K.peeked kernel.old) in seen_text texts at ≡ sight_seen texts at sight }
+        requires seen { let texts = texts_in self.now (K.peeked kernel.old) in seen_text texts at ≡ sight_seen texts at sight }
+        requires asked { WasAsked (texts_in self.now (K.peeked kernel.old)) at Known.Directory terms.steady }
         ensures answer { let texts = texts_in self.now (K.peeked kernel.old) in let rest = components_of behind.now in
-            IsPassed texts terms rest (middle_trail texts terms (above at) rest (sight_seen texts at sight)) result }
+            IsPassed texts terms rest terms.steady (middle_trail texts terms (above at) rest (sight_seen texts at sight)) result }
         ensures kernel { OnlyPeeks K.peeked K.kept kernel.old kernel.new }
     {
         match sight {
             Sight::Missing => Err(WalkErr::Err(Errno::ENOENT)),
-            Sight::Directory => Ok(Passed::On(at, Known::Directory)),
-            Sight::File => Ok(Passed::On(at, Known::Nothing)),
+            Sight::Directory => Ok(Passed::On(at, Known::Directory, terms.steady)),
+            Sight::File => Ok(Passed::On(at, Known::Nothing, terms.steady)),
             Sight::Links(text) => {
                 let path = joined(self.alloc, text.as_slice(), behind)?;
                 let start = follow(self.alloc, at, text.as_slice(), terms.left)?;
@@ -275,6 +321,7 @@ impl<'a> Translation<'a> {
                     at: start,
                     path,
                     slash: terms.slash,
+                    steady: terms.steady,
                 }))
             }
             Sight::Jumps => {
@@ -284,6 +331,7 @@ impl<'a> Translation<'a> {
                     at: guest,
                     path,
                     slash: terms.slash,
+                    steady: terms.steady,
                 }))
             }
         }
@@ -299,19 +347,27 @@ impl<'a> Translation<'a> {
         terms: Terms,
     ) -> Result<Way, WalkErr>
         requires known { IsKnown (texts_in self.now (K.peeked kernel.old)) at known }
+        requires asked { WasAsked (texts_in self.now (K.peeked kernel.old)) at known terms.steady }
         requires component { IsComponent (component_data component) }
         ensures answer { let texts = texts_in self.now (K.peeked kernel.old) in let c = component_data component.entry in
-            IsWay texts terms.mode terms.left (last_trail texts terms at c (look_text texts at c)) result }
+            IsWay texts terms.mode terms.left (looked texts terms.steady at c) (last_trail texts terms at c (look_text texts at c)) result }
         ensures kernel { OnlyPeeks K.peeked K.kept kernel.old kernel.new }
     {
         self.enter(kernel, &at, known)?;
+        let steady = self.steady_in(kernel, &at, known, terms.steady)?;
+        let here = Terms { steady, ..terms };
         match component {
-            Component::Dot => Ok(Way::Ends(ends_at_dot(at, terms))),
-            Component::DotDot => Ok(Way::Ends(ends_at_dot_dot(at, terms))),
+            Component::Dot => Ok(Way::Ends(ends_at_dot(at, here))),
+            Component::DotDot => Ok(Way::Ends(ends_at_dot_dot(at, here))),
             Component::Name(name) => {
                 let entry = at.child(name)?;
+                let still = self.steady_at(kernel, &entry, steady)?;
                 let sight = self.see(kernel, &entry)?;
-                self.arrive(kernel, entry, sight, terms)
+                let there = Terms {
+                    steady: still,
+                    ..terms
+                };
+                self.arrive(kernel, entry, sight, there)
             }
         }
     }
@@ -325,7 +381,7 @@ impl<'a> Translation<'a> {
         terms: Terms,
     ) -> Result<Way, WalkErr>
         ensures answer { let texts = texts_in self.now (K.peeked kernel.old) in (dir : List (List ℕ)) (name : List ℕ) → at ≡ name ∷ dir
-            → IsWay texts terms.mode terms.left (last_trail texts terms dir (Name name) (sight_seen texts at sight)) result }
+            → IsWay texts terms.mode terms.left terms.steady (last_trail texts terms dir (Name name) (sight_seen texts at sight)) result }
         ensures kernel { OnlyPeeks K.peeked K.kept kernel.old kernel.new }
     {
         match sight {
@@ -364,7 +420,7 @@ impl<'a> Translation<'a> {
     fn land<K: Peeks>(&self, kernel: &mut K, link: &Guest, terms: Terms) -> Result<Way, WalkErr>
         requires { is_followed terms.mode terms.slash ≡ true }
         ensures answer { let texts = texts_in self.now (K.peeked kernel.old) in (dir : List (List ℕ)) (name : List ℕ) →
-            IsWay texts terms.mode terms.left (last_trail texts terms dir (Name name) (sight_seen texts link.now Sight.Jumps)) result }
+            IsWay texts terms.mode terms.left terms.steady (last_trail texts terms dir (Name name) (sight_seen texts link.now Sight.Jumps)) result }
         ensures kernel { OnlyPeeks K.peeked K.kept kernel.old kernel.new }
     {
         let guest = self.jump(kernel, link, terms.left)?;
@@ -401,7 +457,7 @@ impl<'a> Translation<'a> {
 /// At a last name that is free.
 fn arrive_free(at: Guest, terms: Terms) -> Result<Way, WalkErr>
     ensures { (texts : TextSurroundings) (dir : List (List ℕ)) (name : List ℕ) → at ≡ name ∷ dir
-        → IsWay texts terms.mode terms.left (last_trail texts terms dir (Name name) Missing) result }
+        → IsWay texts terms.mode terms.left terms.steady (last_trail texts terms dir (Name name) Missing) result }
 {
     if may_be_free(terms.mode) {
         Ok(Way::Ends(ends_at_name(at, terms, false)))
@@ -413,7 +469,7 @@ fn arrive_free(at: Guest, terms: Terms) -> Result<Way, WalkErr>
 /// At a last name at which no link stands.
 fn arrive_found(at: Guest, is_dir: bool, terms: Terms) -> Result<Way, WalkErr>
     ensures { (texts : TextSurroundings) (dir : List (List ℕ)) (name : List ℕ)
-        → IsWay texts terms.mode terms.left (last_trail texts terms dir (Name name) (Leads is_dir at at)) result }
+        → IsWay texts terms.mode terms.left terms.steady (last_trail texts terms dir (Name name) (Leads is_dir at at)) result }
 {
     if wants_directory(terms.mode, terms.slash) && !is_dir {
         Err(WalkErr::Err(Errno::ENOTDIR))
@@ -426,7 +482,7 @@ fn arrive_found(at: Guest, is_dir: bool, terms: Terms) -> Result<Way, WalkErr>
 /// behind the path.
 fn arrive_link(alloc: Global, at: Guest, text: Bytes, terms: Terms) -> Result<Way, WalkErr>
     ensures { (texts : TextSurroundings) (name : List ℕ)
-        → IsWay texts terms.mode terms.left (last_trail texts terms (above at) (Name name) (Links at text)) result }
+        → IsWay texts terms.mode terms.left terms.steady (last_trail texts terms (above at) (Name name) (Links at text)) result }
 {
     if !is_followed(terms.mode, terms.slash) {
         return Ok(Way::Ends(ends_at_name(at, terms, true)));
@@ -437,6 +493,7 @@ fn arrive_link(alloc: Global, at: Guest, text: Bytes, terms: Terms) -> Result<Wa
         at: start,
         path: text,
         slash,
+        steady: terms.steady,
     }))
 }
 

@@ -25,7 +25,7 @@ returns-in-File-clause-answer g c = λ dir name is.
 pub returns-in-Links-clause-answer : goal.returns-in-Links-clause-answer
 returns-in-Links-clause-answer g c = λ dir name is.
     let texts = texts_in c.args.self.now (g.K.Peeks.peeked c.args.kernel.now) in
-    let there = ap (λ t. ended c.args.terms.mode (last_trail texts c.args.terms (above t) (Name name) (Links c.args.at c.in-Links.text))) is in
+    let there = ap (λ t. ended texts c.args.terms.mode c.args.terms.steady (last_trail texts c.args.terms (above t) (Name name) (Links c.args.at c.in-Links.text))) is in
     way_same texts c.args.terms.mode c.args.terms.left _ _ c.arrive_link.result (there ∙ ap (λ s. arrived texts c.args.terms dir c.args.at name (sight_seen texts c.args.at s)) (sym c.in-Links.is)) (c.arrive_link.ensures texts name)
 
 pub returns-then-is_followed-clause-answer : goal.returns-then-is_followed-clause-answer

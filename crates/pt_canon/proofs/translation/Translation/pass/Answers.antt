@@ -13,8 +13,10 @@ pub returns-in-Directory-clause-answer : goal.returns-in-Directory-clause-answer
 returns-in-Directory-clause-answer g c =
     let texts = texts_in c.args.self.now (g.K.Peeks.peeked c.args.kernel.now) in
     let at = c.args.at in
-    let shown : seen_text texts at ≡ Leads true at at = c.requires ∙ ap (sight_seen texts at) c.in-Directory.is in
-    (ap (λ s. ended c.args.terms.mode (middle_trail texts c.args.terms (above at) (components_of c.args.behind.now) (sight_seen texts at s))) c.in-Directory.is, seen_dir texts at shown)
+    let shown : seen_text texts at ≡ Leads true at at = c.requires.seen ∙ ap (sight_seen texts at) c.in-Directory.is in (
+      ap (λ s. ended texts c.args.terms.mode c.args.terms.steady (middle_trail texts c.args.terms (above at) (components_of c.args.behind.now) (sight_seen texts at s))) c.in-Directory.is,
+      (seen_dir texts at shown, c.requires.asked),
+    )
 
 pub returns-in_ok-start-in-Links-clause-answer : goal.returns-in_ok-start-in-Links-clause-answer
 returns-in_ok-start-in-Links-clause-answer g c =

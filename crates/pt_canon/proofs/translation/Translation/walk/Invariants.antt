@@ -10,7 +10,7 @@ abbrev pub invariant-links : goal.invariant-links
 invariant-links g l =
     let texts = texts_in l.self (g.K.Peeks.peeked l.fn.kernel) in
     record {
-      ends : ended l.mode (left_on texts l.mode l.left l.onward.at (components_of l.onward.path) l.onward.slash) ≡ ended l.mode (text_walk texts l.mode (names_of l.fn.base) l.fn.path);
+      ends : ended texts l.mode l.onward.steady (left_on texts l.mode l.left l.onward.at (components_of l.onward.path) l.onward.slash) ≡ ended texts l.mode l.fn.asks (text_walk texts l.mode (names_of l.fn.base) l.fn.path);
       same : g.K.Peeks.peeked l.kernel ≡ g.K.Peeks.peeked l.fn.kernel;
       rest : g.K.Peeks.kept l.kernel ≡ g.K.Peeks.kept l.fn.kernel;
     }
