@@ -3,8 +3,8 @@ use Rattle.std.proofs.Common.{◌≡◌, ◌∙◌, ℕ, refl, sym, subst}
 use Rattle.law_steady.specs.kr_model.Peeks.{peeked_of}
 use Rattle.law_steady.specs.kr_tree.Lawful.{IsSound}
 use Rattle.pt_faker.specs.Stopping.{IsEdited, Stopped}
-use Rattle.pt_results.specs.pt_canon.Remembering.{Agrees, Walking, WalksOn}
-use Rattle.pt_results.specs.pt_canon.pr_base.Peeks.{Peeked}
+use Rattle.pt_canon.specs.Remembering.{Agrees, Walking, WalksOn}
+use Rattle.pr_base.specs.Peeks.{Peeked}
 use Rattle.pt_tracer.specs.Agreeing.{AgreesWith, WalksAt}
 use Rattle.pt_tracer.specs.AgreeingLaws.{agrees-same}
 

@@ -5,7 +5,7 @@ use Rattle.pr_base.proofs.MapLemmas.{ties-other}
 use Rattle.pt_faker.specs.Stopping.{Stopped}
 use Rattle.pt_faker.specs.kr_stops.Remembering.{FreesCaller, KeepsAllFree, KeepsOthersFree, StillAgrees, can_alter_shape}
 use Rattle.pt_faker.specs.kr_stops.Stopped.{image_at}
-use Rattle.pt_results.specs.pt_canon.Remembering.{Walking}
+use Rattle.pt_canon.specs.Remembering.{Walking}
 use Rattle.pt_tracer.specs.Agreeing.{AgreesWith}
 use Rattle.pt_tracer.specs.AgreeingLaws.{empty-agrees, paused-agrees}
 use Rattle.pt_tracer.specs.Pausing.{IsPausedBy, IsPausedFor, Pausing, is_pausing}

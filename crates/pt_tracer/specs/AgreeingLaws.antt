@@ -1,6 +1,6 @@
 -- Where what a walker remembers agrees with a tree. No clause cites this module.
 use Rattle.std.proofs.Common.{◌≡◌, ◌≢◌, ℕ, [], refl, sym, subst}
-use Rattle.law_steady.specs.pt_canon.pr_base.declared.path.WalkMode.TheVariants.{LookLink}
+use Rattle.pr_base.specs.declared.path.WalkMode.TheVariants.{LookLink}
 use Rattle.law_steady.specs.kr_model.Applied.{with_tree}
 use Rattle.law_steady.specs.kr_model.Judged.{HasShape}
 use Rattle.law_steady.specs.kr_model.Peeks.{peeked_of}
@@ -10,9 +10,9 @@ use Rattle.law_steady.specs.kr_tree.Tree.{Tree}
 use Rattle.law_steady.specs.Steady.{HaveOneShape}
 use Rattle.law_steady.proofs.ExactLemmas.{same_shape}
 use Rattle.law_steady.proofs.SteadyLemmas.{steady_peeks_last, steady_walks_last}
-use Rattle.law_steady.proofs.pt_canon.RememberLemmas.{agreement_lasts, nothing_agrees, paused_agrees}
+use Rattle.pt_canon.proofs.RememberLemmas.{agreement_lasts, nothing_agrees, paused_agrees}
 use Rattle.pt_faker.specs.kr_inode.declared.user.User.{User}
-use Rattle.pt_results.specs.pt_canon.Remembering.{Agrees, Walking}
+use Rattle.pt_canon.specs.Remembering.{Agrees, Walking}
 use Rattle.pt_tracer.specs.Agreeing.{AgreesWith}
 
 -- what agrees with what a kernel tells of a state does so with what it tells of any other of that shape and user

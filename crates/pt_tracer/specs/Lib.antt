@@ -6,6 +6,7 @@ pub use Rattle.pt_faker.specs.kr_inode as kr_inode
 pub use Rattle.pt_faker.specs.kr_exec as kr_exec
 pub use Rattle.pt_faker.specs.kr_stops as kr_stops
 pub use Rattle.pt_bind.specs as pt_bind
+pub use Rattle.pt_canon.specs as pt_canon
 pub use Rattle.pt_results.specs as pt_results
 pub use Rattle.pt_script.specs as pt_script
 pub use Rattle.law_steady.specs as law_steady

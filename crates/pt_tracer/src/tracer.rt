@@ -16,10 +16,11 @@ use crate::registers::Arguments;
 use crate::settling::{begin, give_back, has_begun};
 use pr_base::NoMemory;
 use pt_bind::Tags;
+use pt_canon::Walker;
 use pt_faker::below::{Identities, User};
 use pt_faker::registers::take_number;
 use pt_faker::{Graphed, Stops, Tracee};
-use pt_results::below::{CallFault, Request, Walker};
+use pt_results::below::{CallFault, Request};
 use std::alloc::Global;
 use std::marker::Model;
 
