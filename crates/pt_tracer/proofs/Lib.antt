@@ -6,7 +6,7 @@ pub use Rattle.pt_faker.proofs.kr_stops as kr_stops
 pub use Rattle.pt_bind.proofs as pt_bind
 pub use Rattle.pt_canon.proofs as pt_canon
 pub use Rattle.law_steady.proofs as law_steady
-mod AgreeLemmas
+pub mod AgreeLemmas
 mod EntryLemmas
 mod PauseLemmas
 mod PlanLemmas

@@ -7,7 +7,8 @@ use Rattle.pt_faker.specs.kr_stops.Remembering.{FreesCaller, KeepsAllFree, Keeps
 use Rattle.pt_faker.specs.kr_stops.Stopped.{image_at}
 use Rattle.pt_canon.specs.Remembering.{Walking}
 use Rattle.pt_tracer.specs.Agreeing.{AgreesWith}
-use Rattle.pt_tracer.specs.AgreeingLaws.{empty-agrees, paused-agrees}
+use Rattle.pt_tracer.specs.AgreeingLaws.{paused-agrees}
+use Rattle.pt_tracer.proofs.AgreeLemmas.{empty-agrees}
 use Rattle.pt_tracer.specs.Pausing.{IsPausedBy, IsPausedFor, Pausing, is_pausing}
 
 abbrev pausing : Walking → List ℕ → Pausing

@@ -267,7 +267,7 @@ impl Stops for Tracer {
 
     ghost free_agrees = { λ x pid free t user. paused-agrees x.pausing.walker t user free.stands };
 
-    ghost lasts_with_shape = { λ x t u user sound shape before. lasts-with-shape x.pausing.walker t u user sound shape before };
+    ghost lasts_with_shape = { λ x t u user sound shape before. lasts-with-shape x.pausing.walker t u user shape before };
 }
 
 impl Graphed for Tracer {

@@ -6,7 +6,7 @@ use Rattle.kr_view.proofs.TableLemmas.{plain_stands}
 use Rattle.pt_bind.specs.Binding.{rows_of}
 use Rattle.pt_canon.specs.Remembering.{Walking}
 use Rattle.pt_tracer.specs.Agreeing.{AgreesWith}
-use Rattle.pt_tracer.specs.AgreeingLaws.{empty-agrees}
+use Rattle.pt_tracer.proofs.AgreeLemmas.{empty-agrees}
 use Rattle.pt_tracer.specs.Keeping.{Keeping}
 use Rattle.pr_start.proofs.FirstLemmas.{can-start}
 use Rattle.pr_start.proofs.traced.start_traced.Goals as goal
