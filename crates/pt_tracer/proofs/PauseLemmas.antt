@@ -21,8 +21,8 @@ some-long pid [] is none = absurd cc
 some-long pid (p ∷ pids) is none = absurd (omega arith)
 
 pub still-pausing : (b old new : Bool) → new ≡ cond b true old → old ≡ true → new ≡ true
-still-pausing true old new is yes = is
-still-pausing false old new is yes = is ∙ yes
+still-pausing true old new is was = is
+still-pausing false old new is was = is ∙ was
 
 module _ (w : Walking) (pids : List ℕ) (by : IsPausedBy w pids) where
   pub paused-for : (pid : ℕ) → is_pausing pid pids ≡ true → IsPausedFor (pausing w pids) pid

@@ -91,7 +91,7 @@ impl Tracer {
         match t.request() {
             Ok(request) => self.take_up(t, request),
             Err(CallFault::Err(_)) => {
-                let _call = self.calls.take(pid);
+                self.calls.forget(pid);
                 Ok(())
             }
             Err(CallFault::NoMemory) => Err(NoMemory),
@@ -186,7 +186,7 @@ impl Tracer {
         ensures forgets { self.new.tracing ≡ gone self.old.tracing pid }
         ensures pausing { self.new.pausing ≡ self.old.pausing }
     {
-        let _call = self.calls.take(pid);
+        self.calls.forget(pid);
         self.tags.drop_pid(pid);
         match &mut self.identities {
             Some(table) => table.gone(pid),
