@@ -55,7 +55,7 @@ impl Model for Tracer {
 
 impl Tracer {
     ghost use Rattle.pt_tracer.specs.Keeping.{KeepingAgrees, KeepingIsFree, starting_keeping};
-    ghost use Rattle.pt_tracer.specs.Watched.{after_pending, born, by_identities, entered, exited, gone};
+    ghost use Rattle.pt_tracer.specs.Watched.{after_pending, born, by_identities, entered, exited, gone, without_pending};
 
     /// A tracer by a walker without a pause, and with the tags of the first process. With an identity option processes start as the user
     /// `ids.0` and the group `ids.1`, and what the host user owns is theirs. It takes no memory.
@@ -91,11 +91,19 @@ impl Tracer {
         match t.request() {
             Ok(request) => self.take_up(t, request),
             Err(CallFault::Err(_)) => {
-                self.calls.forget(pid);
+                self.pass(pid);
                 Ok(())
             }
             Err(CallFault::NoMemory) => Err(NoMemory),
         }
+    }
+
+    /// A call that can't be read is left to the kernel.
+    fn pass(&mut self, pid: u32)
+        ensures tracing { self.new.tracing ≡ without_pending pid self.old.tracing }
+        ensures pausing { self.new.pausing ≡ self.old.pausing }
+    {
+        self.calls.forget(pid);
     }
 
     /// The first stop of a call that could be read: it is answered here, or shown to the kernel with host paths.

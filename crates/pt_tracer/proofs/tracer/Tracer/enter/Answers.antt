@@ -1,7 +1,7 @@
 use Rattle.std.proofs.Common.{◌∙◌, subst, sym}
 use Rattle.pt_faker.proofs.StopLemmas.{edited-then, on_ok, request-edits}
-use Rattle.pt_tracer.specs.Agreeing.{AgreesWith, WalksAt}
-use Rattle.pt_tracer.specs.Keeping.{Keeping}
+use Rattle.pt_tracer.specs.Agreeing.{WalksAt}
+use Rattle.pt_tracer.specs.Pausing.{Pausing}
 use Rattle.pt_tracer.proofs.AgreeLemmas.{edited-agrees, edited-walks, walks-none}
 use Rattle.pt_tracer.proofs.tracer.Tracer.enter.Goals as goal
 
@@ -29,9 +29,8 @@ returns-in-Ok-clause-edits g c =
 pub returns-in-Err-Err-clause-walks : goal.returns-in-Err-Err-clause-walks
 returns-in-Err-Err-clause-walks g c =
     let t = g.T.Tracee.stopped c.args.t.now in
-    let w = c.self.inside.pausing.walker in
-    subst (λ (x : Keeping). WalksAt t x.pausing.walker w) c.self.view_is
-    (walks-none w t (subst (λ (x : Keeping). AgreesWith x.pausing.walker t.state.tree t.state.user) (sym c.self.view_is) c.requires.agrees))
+    let w = c.args.self.now.pausing.walker in
+    subst (λ (p : Pausing). WalksAt t w p.walker) (sym c.pass.ensures.pausing) (walks-none w t c.requires.agrees)
 
 pub returns-in-Err-Err-clause-edits : goal.returns-in-Err-Err-clause-edits
 returns-in-Err-Err-clause-edits g c = record {
