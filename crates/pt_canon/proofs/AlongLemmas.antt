@@ -10,9 +10,8 @@ use Rattle.pt_bind.specs.pr_base.declared.path.Last.TheVariants as last
 use Rattle.pt_bind.proofs.pr_base.PathLemmas.{paths_have_components}
 use Rattle.pt_bind.proofs.pr_base.WalkLemmas.{walk-none}
 use Rattle.pt_canon.specs.Canon.{ending_of}
-use Rattle.pt_canon.specs.Looks.{IsKnown}
-use Rattle.pt_canon.specs.Steadily.{WasAsked, looked}
-use Rattle.pt_canon.specs.Steps.{ended, left_on, middle_trail, last_trail, GoesOn, PassedIs, IsWay, Tells, WayIs}
+use Rattle.pt_canon.specs.Steadily.{looked}
+use Rattle.pt_canon.specs.Steps.{ended, left_on, middle_trail, last_trail, GoesOn, IsNoted, PassedIs, IsWay, Tells, WayIs}
 use Rattle.pt_canon.specs.TextWalk.{TextSurroundings, look_text, looking_texts}
 use Rattle.pt_canon.specs.declared.canon.WalkErr.{WalkErr}
 use Rattle.pt_canon.specs.declared.ending.Ended.{Ended}
@@ -62,7 +61,7 @@ module _ (texts : TextSurroundings) (terms : Terms) (t : Text) (part : List ℕ)
         ∙ ends
 
     pub passed_on : (p : Passed) (on : Text) (known : Known) (still : Bool) → PassedIs texts terms (components_of behind) at_middle p → p ≡ passed.On on known still
-        → (along_parts texts terms still on (following ∷ more) ≡ whole) × (IsKnown texts on known × WasAsked texts on known still)
+        → (along_parts texts terms still on (following ∷ more) ≡ whole) × IsNoted texts on known still
     passed_on p on known still told is =
         let P : Passed → Type 0 = PassedIs texts terms (components_of behind) at_middle in
         let at : P (passed.On on known still) = subst P is told in

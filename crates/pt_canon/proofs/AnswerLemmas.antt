@@ -1,5 +1,5 @@
 -- What is kept under the bytes of keys, as what is remembered under keys.
-use Rattle.std.proofs.Common.{◌≡◌, ◌∙◌, ℕ, zero, suc, ◌≤◌, Bool, true, false, cond, List, [], ◌∷◌, length, map, take, Option, Some, None, All, Vec, refl, ap, sym, subst, arith}
+use Rattle.std.proofs.Common.{◌≡◌, ◌∙◌, ℕ, zero, suc, ◌-◌, ◌≤◌, Bool, true, false, cond, List, [], ◌∷◌, length, take, Some, None, All, Vec, refl, ap, sym, subst, arith}
 use Rattle.std.specs.Map.{lookup, lookup_entry, remove_entry}
 use Rattle.std.specs.Option.{option_map_or}
 use Rattle.std.specs.Str.{bytes_eq}
@@ -7,8 +7,8 @@ use Rattle.std.proofs.lemmas.List.{take-map}
 use Rattle.std.proofs.lemmas.List.Elements.{All-cons, All-head, All-tail, All-take}
 use Rattle.lru.specs.LruCache.{LruCache, promoted, put_entries}
 use Rattle.pt_bind.specs.Binding.{IsWritten}
-use Rattle.pt_canon.specs.Keys.{IsKeyBytes, key_bytes, key_in}
-use Rattle.pt_canon.specs.Kept.{AreKept, IsKept, entries_in, shown_entry}
+use Rattle.pt_canon.specs.Keys.{key_bytes, key_in}
+use Rattle.pt_canon.specs.KeptAnswers.{AreKept, IsKept, entries_in, shown_entry}
 use Rattle.pt_canon.specs.Remembering.{Key, most_remembered, same_key, with_newest}
 use Rattle.pt_canon.specs.declared.canon.Canon.{Canon}
 use Rattle.pt_canon.proofs.KeyLemmas.{bytes_tell, same_is}
@@ -18,37 +18,38 @@ use Rattle.pt_canon.proofs.KeyLemmas.{bytes_tell, same_is}
 module _ {K V : Type 0} (test : K → Bool) where
   pub All-removed : (P : K × V → Type 0) (es : List (K × V)) → All P es → All P (remove_entry test es)
   All-removed P [] all = all
-  All-removed P (e ∷ es) all = at (test e.0)
+  All-removed P (e ∷ es) all = at (test e.0) (All-removed P es (All-tail P e es all))
     where
-      at : (b : Bool) → All P (cond b es (e ∷ remove_entry test es))
-      at true = All-tail P e es all
-      at false = All-cons P e (remove_entry test es) (All-head P e es all) (All-removed P es (All-tail P e es all))
+      at : (b : Bool) → All P (remove_entry test es) → All P (cond b es (e ∷ remove_entry test es))
+      at true rest = All-tail P e es all
+      at false rest = All-cons P e (remove_entry test es) (All-head P e es all) rest
 
   -- where nothing is found nothing is taken away
   pub remove-none : (es : List (K × V)) → lookup test es ≡ None → remove_entry test es ≡ es
   remove-none [] none = refl
-  remove-none (e ∷ es) none = at (test e.0) none
+  remove-none (e ∷ es) none = at (test e.0) none (remove-none es)
     where
-      at : (b : Bool) → cond b (Some e.1) (lookup test es) ≡ None → cond b es (e ∷ remove_entry test es) ≡ e ∷ es
-      at true some = absurd cc
-      at false rest = ap (λ es. e ∷ es) (remove-none es rest)
+      at : (b : Bool) → cond b (Some e.1) (lookup test es) ≡ None → (lookup test es ≡ None → remove_entry test es ≡ es) → cond b es (e ∷ remove_entry test es) ≡ e ∷ es
+      at true some later = absurd cc
+      at false rest later = ap (λ es. e ∷ es) (later rest)
 
   pub lookup_entry-none : (es : List (K × V)) → lookup test es ≡ None → lookup_entry test es ≡ None
   lookup_entry-none [] none = refl
-  lookup_entry-none (e ∷ es) none = at (test e.0) none
+  lookup_entry-none (e ∷ es) none = at (test e.0) none (lookup_entry-none es)
     where
-      at : (b : Bool) → cond b (Some e.1) (lookup test es) ≡ None → cond b (Some e) (lookup_entry test es) ≡ None
-      at true some = absurd cc
-      at false rest = lookup_entry-none es rest
+      at : (b : Bool) → cond b (Some e.1) (lookup test es) ≡ None → (lookup test es ≡ None → lookup_entry test es ≡ None) → cond b (Some e) (lookup_entry test es) ≡ None
+      at true some later = absurd cc
+      at false rest later = later rest
 
   -- where something is found one entry is taken away
   pub length-removed : (es : List (K × V)) (v : V) → lookup test es ≡ Some v → suc (length (remove_entry test es)) ≡ length es
   length-removed [] v found = absurd cc
-  length-removed (e ∷ es) v found = at (test e.0) found
+  length-removed (e ∷ es) v found = at (test e.0) found (length-removed es v)
     where
-      at : (b : Bool) → cond b (Some e.1) (lookup test es) ≡ Some v → suc (length (cond b es (e ∷ remove_entry test es))) ≡ suc (length es)
-      at true some = refl
-      at false rest = ap suc (length-removed es v rest)
+      at : (b : Bool) → cond b (Some e.1) (lookup test es) ≡ Some v → (lookup test es ≡ Some v → suc (length (remove_entry test es)) ≡ length es)
+          → suc (length (cond b es (e ∷ remove_entry test es))) ≡ suc (length es)
+      at true some later = refl
+      at false rest later = ap suc (later rest)
 
   -- which entry is found, of which P holds
   pub record IsFound (P : K × V → Type 0) (es : List (K × V)) (v : V) : Type 0 where
@@ -60,12 +61,12 @@ module _ {K V : Type 0} (test : K → Bool) where
 
   pub found_entry : (P : K × V → Type 0) (es : List (K × V)) (v : V) → All P es → lookup test es ≡ Some v → IsFound P es v
   found_entry P [] v all found = absurd cc
-  found_entry P (e ∷ es) v all found = at (test e.0) refl found
+  found_entry P (e ∷ es) v all found = at (test e.0) refl found (found_entry P es v (All-tail P e es all))
     where
-      at : (b : Bool) → test e.0 ≡ b → cond b (Some e.1) (lookup test es) ≡ Some v → IsFound P (e ∷ es) v
-      at true passes some = record { entry = e; there = ap (λ b. cond b (Some e) (lookup_entry test es)) passes; value = cc; passes = passes; holds = All-head P e es all }
-      at false other rest =
-          let on = found_entry P es v (All-tail P e es all) rest in
+      at : (b : Bool) → test e.0 ≡ b → cond b (Some e.1) (lookup test es) ≡ Some v → (lookup test es ≡ Some v → IsFound P es v) → IsFound P (e ∷ es) v
+      at true passes some later = record { entry = e; there = ap (λ b. cond b (Some e) (lookup_entry test es)) passes; value = cc; passes = passes; holds = All-head P e es all }
+      at false other rest later =
+          let on = later rest in
           record { entry = on.entry; there = ap (λ b. cond b (Some e) (lookup_entry test es)) other ∙ on.there; value = on.value; passes = on.passes; holds = on.holds }
 
 pub take_whole : {X : Type 0} (n : ℕ) (xs : List X) → length xs ≤ n → take n xs ≡ xs
@@ -77,6 +78,10 @@ take_whole (suc n) (x ∷ xs) few = ap (λ xs. x ∷ xs) (take_whole n xs (omega
 -- ---- what is kept
 
 module _ {Z : Type 0} where
+  pub shown_as_many : (es : List (Vec ℕ Z × Canon)) → length es ≡ length (entries_in es)
+  shown_as_many [] = refl
+  shown_as_many (e ∷ es) = ap suc (shown_as_many es)
+
   -- a look-up by bytes, as by a key
   abbrev pub by_bytes : List ℕ → Vec ℕ Z → Bool
   by_bytes bytes k = bytes_eq bytes k.items

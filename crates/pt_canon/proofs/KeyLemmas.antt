@@ -1,6 +1,6 @@
 -- Keys are read back from their bytes, so no two have the same.
-use Rattle.std.proofs.Common.{◌≡◌, ◌∙◌, ℕ, zero, suc, ◌<◌, ◌^◌, Bool, true, false, ◌&&◌, ◌==◌, List, [], ◌∷◌, ◌++◌, length, take, drop, refl, ap, sym, subst, eq-eqb}
-use Rattle.std.specs.Int.{w64, to_le_bytes, from_le_bytes}
+use Rattle.std.proofs.Common.{◌≡◌, ◌∙◌, ℕ, ◌<◌, ◌^◌, Bool, true, false, ◌&&◌, ◌==◌, List, [], ◌∷◌, ◌++◌, length, take, drop, refl, ap, sym, subst, eq-eqb, arith, length-append}
+use Rattle.std.specs.Int.{w64, to_le_bytes}
 use Rattle.std.specs.Str.{bytes_eq}
 use Rattle.std.proofs.lemmas.Bool.{eqb-true}
 use Rattle.std.proofs.lemmas.Nat.{from_le_bytes-to_le_bytes_8}
@@ -39,6 +39,20 @@ key_found bytes key fits is = ap key_in is ∙ key_read key fits
 pub key_kept : (bytes : List ℕ) (key : Key) → length key.base < 2 ^ 64 → bytes ≡ key_bytes key → IsKeyBytes bytes
 key_kept bytes key fits is = record { same = is ∙ ap key_bytes (sym (key_found bytes key fits is)) }
 
+-- ---- made
+
+pub key_built : (base path : List ℕ) (mode : WalkMode) (size : List ℕ) (number : ℕ) (bytes : List ℕ) → size ≡ to_le_bytes w64 (length base) → number ≡ mode_number mode
+    → bytes ≡ ((size ++ number ∷ []) ++ base) ++ path → bytes ≡ key_bytes (key_of base path mode)
+key_built base path mode size number bytes size_is number_is is = is ∙ (λ i. ((size_is i ++ number_is i ∷ []) ++ base) ++ path)
+
+-- the guest text is a part of it
+pub base_fits : (base path : List ℕ) (mode : WalkMode) (bytes : List ℕ) → bytes ≡ key_bytes (key_of base path mode) → length bytes < 2 ^ 63 → length base < 2 ^ 64
+base_fits base path mode bytes is few =
+    let whole : length bytes ≡ length (to_le_bytes w64 (length base) ++ mode_number mode ∷ base ++ path) = ap length is in
+    let long = length-append (to_le_bytes w64 (length base)) (mode_number mode ∷ base ++ path) in
+    let rest = length-append base path in
+    omega (arith, whole, long, rest, few)
+
 -- ---- the test on keys
 
 pub same_is : (a b : Key) → same_key a b ≡ true → a ≡ b
@@ -49,15 +63,15 @@ same_is a b same =
     let rest = and_second base (path && mode) same in
     let bases : a.base ≡ b.base = (bytes_eq-Decides a.base b.base).0 (and_first base (path && mode) same) in
     let paths : a.path ≡ b.path = (bytes_eq-Decides a.path b.path).0 (and_first path mode rest) in
-    let modes : a.mode ≡ b.mode = sym (mode_read a.mode) ∙ ap mode_of (eqb-true (mode_number a.mode) (mode_number b.mode) (and_second path mode rest)) ∙ mode_read b.mode in
-    λ i. key_of (bases i) (paths i) (modes i)
+    let ways : a.mode ≡ b.mode = sym (mode_read a.mode) ∙ ap mode_of (eqb-true (mode_number a.mode) (mode_number b.mode) (and_second path mode rest)) ∙ mode_read b.mode in
+    λ i. key_of (bases i) (paths i) (ways i)
 
 same_self : (a : Key) → same_key a a ≡ true
 same_self a =
     let bases = (bytes_eq-Decides a.base a.base).1 refl in
     let paths = (bytes_eq-Decides a.path a.path).1 refl in
-    let modes = eq-eqb (mode_number a.mode) (mode_number a.mode) refl in
-    λ i. bases i && (paths i && modes i)
+    let ways = eq-eqb (mode_number a.mode) (mode_number a.mode) refl in
+    λ i. bases i && (paths i && ways i)
 
 both_or_none : (a b : Bool) → (a ≡ true → b ≡ true) → (b ≡ true → a ≡ true) → a ≡ b
 both_or_none true b go back = sym (go refl)

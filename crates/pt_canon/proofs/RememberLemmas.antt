@@ -1,8 +1,9 @@
 -- What walkers remember, and agreement.
-use Rattle.std.proofs.Common.{◌≡◌, ◌≢◌, ◌∙◌, ℕ, Bool, true, false, ◌&&◌, ◌==◌, cond, List, [], ◌∷◌, take, Option, Some, None, Result, Ok, Err, All, refl, ap, sym, subst, eq-eqb}
+use Rattle.std.proofs.Common.{◌≡◌, ◌≢◌, ◌∙◌, ℕ, Bool, true, false, ◌&&◌, ◌==◌, cond, List, [], ◌∷◌, Some, Result, Ok, Err, All, refl, ap, sym, subst, eq-eqb}
 use Rattle.std.specs.Bool.{if◌then◌else◌}
 use Rattle.std.specs.List.{list_all}
 use Rattle.std.specs.Map.{lookup, remove_entry}
+use Rattle.std.specs.Result.{IsErr, IsErrAnd}
 use Rattle.std.proofs.lemmas.Bool.{eqb-true}
 use Rattle.std.proofs.lemmas.List.Elements.{All-cons, All-head, All-nil, All-tail, All-take, All-weaker}
 use Rattle.std.proofs.lemmas.List.Sums.{AllPass-from_list_all, list_all-from_AllPass}
@@ -21,8 +22,11 @@ use Rattle.pt_canon.specs.Steadily.{behind_looks}
 use Rattle.pt_canon.specs.Steps.{ended_by}
 use Rattle.pt_canon.specs.TextWalk.{TextSurroundings, text_walk}
 use Rattle.pt_canon.specs.declared.canon.Canon.{Canon}
+use Rattle.pt_canon.specs.Walked.{answer_of}
 use Rattle.pt_canon.specs.declared.canon.WalkErr.{WalkErr}
+use Rattle.pt_canon.specs.declared.canon.WalkErr.TheVariants as fault
 use Rattle.pt_canon.specs.declared.ending.Ended.{Ended}
+use Rattle.pt_canon.specs.declared.walker.Walked.{Walked}
 use Rattle.pt_canon.proofs.AgreeLemmas.{paths_same, walk_same}
 use Rattle.pt_canon.proofs.AnswerLemmas.{All-removed}
 use Rattle.pt_canon.proofs.KeyLemmas.{same_is}
@@ -87,7 +91,7 @@ pub paused_agrees : PausedAgrees
 paused_agrees w peeked paused = record { each = λ none. absurd (paused none) }
 
 pub walks_on_then : (peeked : Peeked) (x y z : Walking) → WalksOn peeked x y → WalksOn peeked y z → WalksOn peeked x z
-walks_on_then peeked x y z first then = record { table = then.table ∙ first.table; pauses = then.pauses ∙ first.pauses; agrees = then.agrees }
+walks_on_then peeked x y z first second = record { table = second.table ∙ first.table; pauses = second.pauses ∙ first.pauses; agrees = second.agrees }
 
 pub walks_on_same : (peeked : Peeked) (x : Walking) → Agrees x peeked → WalksOn peeked x x
 walks_on_same peeked x agrees = record { table = refl; pauses = refl; agrees = agrees }
@@ -97,14 +101,14 @@ walks_on_same peeked x agrees = record { table = refl; pauses = refl; agrees = a
 -- an answer that is found is that of the walk now
 pub found_stands : (bounds : List Bound) (peeked : Peeked) (key : Key) (canon : Canon) (es : List (Key × Canon)) → All (Stands bounds peeked) es → lookup (same_key key) es ≡ Some canon → Stands bounds peeked (key, canon)
 found_stands bounds peeked key canon [] all found = absurd cc
-found_stands bounds peeked key canon (e ∷ es) all found = at (same_key key e.0) refl found
+found_stands bounds peeked key canon (e ∷ es) all found = at (same_key key e.0) refl found (found_stands bounds peeked key canon es (All-tail (Stands bounds peeked) e es all))
   where
-    at : (b : Bool) → same_key key e.0 ≡ b → cond b (Some e.1) (lookup (same_key key) es) ≡ Some canon → Stands bounds peeked (key, canon)
-    at true same some =
+    at : (b : Bool) → same_key key e.0 ≡ b → cond b (Some e.1) (lookup (same_key key) es) ≡ Some canon → (lookup (same_key key) es ≡ Some canon → Stands bounds peeked (key, canon)) → Stands bounds peeked (key, canon)
+    at true same some later =
         let value : e.1 ≡ canon = cc in
         let here : e ≡ (key, canon) = λ i. (sym (same_is key e.0 same) i, value i) in
         subst (Stands bounds peeked) here (All-head (Stands bounds peeked) e es all)
-    at false other rest = found_stands bounds peeked key canon es (All-tail (Stands bounds peeked) e es all) rest
+    at false other rest later = later rest
 
 newest_stands : (bounds : List Bound) (peeked : Peeked) (key : Key) (canon : Canon) (es : List (Key × Canon)) → All (Stands bounds peeked) es → Stands bounds peeked (key, canon) → All (Stands bounds peeked) (with_newest key canon es)
 newest_stands bounds peeked key canon es all own =
@@ -146,6 +150,13 @@ pub after_running : (w : Walking) (steady : Bool) (key : Key) (canon : Canon) �
 after_running w steady key canon none =
     ap (λ b. if b && steady then record { table = w.table; pauses = w.pauses; remembered = with_newest key canon w.remembered } else w) (sym (eq-eqb w.pauses 0 none))
 
+-- one that is recalled is the newest again
+pub after_recalled : (w : Walking) (steady : Bool) (key : Key) (canon : Canon) → w.pauses ≡ 0 → steady ≡ true
+    → record { table = w.table; pauses = w.pauses; remembered = with_newest key canon w.remembered } ≡ after_walk w steady key (Ok canon)
+after_recalled w steady key canon none so =
+    ap (λ b. if b then record { table = w.table; pauses = w.pauses; remembered = with_newest key canon w.remembered } else w) (sym so)
+    ∙ after_running w steady key canon none
+
 -- ---- what a walk tells
 
 -- where it ends, as its answer
@@ -159,6 +170,14 @@ ended_answer texts mode steady (Err x) end e = absurd cc
 pub ended_error : (texts : TextSurroundings) (mode : WalkMode) (steady : Bool) (answer : Result (Target Text Text) Errno) (x : Errno) → ended_by mode steady answer ≡ Err x → canon_result texts.bindings mode answer ≡ Err x
 ended_error texts mode steady (Ok target) x e = absurd cc
 ended_error texts mode steady (Err y) x e = let same : y ≡ x = cc in ap Err same
+
+-- an error as that of its answer
+pub walked_error : (texts : TextSurroundings) (mode : WalkMode) (steady : Bool) (answer : Result (Target Text Text) Errno) (e : WalkErr) (r : Result Walked WalkErr)
+    → IsAnswer (ended_by mode steady answer) (Err e) → IsErr r → IsErrAnd r (λ f. f ≡ e) → IsAnswer (canon_result texts.bindings mode answer) (answer_of r)
+walked_error texts mode steady answer e (Ok walked) told err same = absurd cc
+walked_error texts mode steady answer e (Err fault.NoMemory) told err same = tt
+walked_error texts mode steady answer fault.NoMemory (Err (fault.Err f)) told err same = absurd cc
+walked_error texts mode steady answer (fault.Err e) (Err (fault.Err f)) told err same = let one : f ≡ e = cc in ended_error texts mode steady answer e told ∙ ap Err (sym one)
 
 -- and whether it is steady
 pub walk_steady : (texts : TextSurroundings) (key : Key) (asks : Bool) → behind_looks texts asks (text_walk texts key.mode (names_of key.base) key.path).looks ≡ (asks && is_steady_key texts key)

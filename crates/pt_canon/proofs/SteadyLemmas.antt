@@ -1,10 +1,9 @@
 -- Whether a walk is steady, one look at a time.
-use Rattle.std.proofs.Common.{◌≡◌, ◌∙◌, ℕ, Bool, true, false, ◌&&◌, List, [], ◌∷◌, Ok, refl, ap, sym}
+use Rattle.std.proofs.Common.{◌≡◌, ◌∙◌, ℕ, Bool, true, false, ◌&&◌, List, [], ◌∷◌, refl, ap, sym}
 use Rattle.std.specs.List.{list_all}
 use Rattle.pt_bind.specs.pr_base.Paths.{Component, Dot, DotDot, Name, text_of}
 use Rattle.pt_bind.specs.pr_base.Texts.{Text}
 use Rattle.pt_bind.specs.pr_base.WalkFrame.{LookedAt}
-use Rattle.pt_bind.specs.pr_base.declared.peeks.PeekKind.TheVariants as kind
 use Rattle.pt_bind.specs.Binding.{host_of}
 use Rattle.pt_canon.specs.Laws.{MayLook, host_bytes}
 use Rattle.pt_canon.specs.LookedPaths.{paths_at, paths_in, paths_inside, paths_named, paths_searched}

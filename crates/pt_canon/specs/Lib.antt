@@ -3,6 +3,7 @@ pub use Rattle.pt_bind.specs as pt_bind
 pub mod Canon
 pub mod Components
 pub mod Kept
+pub mod KeptAnswers
 pub mod Keys
 pub mod Laws
 pub mod Leaving

@@ -15,6 +15,7 @@ use Rattle.pt_canon.specs.TextWalk.{TextSurroundings, SeenText, looking_texts}
 use Rattle.pt_canon.specs.declared.canon.WalkErr.{WalkErr}
 use Rattle.pt_canon.specs.declared.canon.WalkErr.TheVariants as fault
 use Rattle.pt_canon.specs.declared.ending.Ended.{Ended}
+use Rattle.pt_canon.specs.declared.sight.Known.{Known}
 use Rattle.pt_canon.specs.declared.walk.Onward.{Onward}
 use Rattle.pt_canon.specs.declared.walk.Passed.{Passed}
 use Rattle.pt_canon.specs.declared.walk.Passed.TheVariants as passed
@@ -63,9 +64,14 @@ WayIs texts mode left whole (way.Goes on) = GoesOn texts mode left whole on
 abbrev pub IsWay : TextSurroundings → WalkMode → ℕ → Bool → Trail Text Text → Result Way WalkErr → Type 0
 IsWay texts mode left steady trail result = Tells (WayIs texts mode left (ended texts mode steady trail)) (ended texts mode steady trail) result
 
+-- what is known of a guest text, and what was asked of it
+pub record IsNoted (texts : TextSurroundings) (t : Text) (known : Known) (steady : Bool) : Type 0 where
+  pub found : IsKnown texts t known
+  pub asked : WasAsked texts t known steady
+
 abbrev pub PassedIs : TextSurroundings → Terms → List Component → Result Ended Errno → Passed → Type 0
 PassedIs texts terms rest whole (passed.On at known steady) =
-    (whole ≡ ended texts terms.mode steady (left_on texts terms.mode terms.left at rest terms.slash)) × (IsKnown texts at known × WasAsked texts at known steady)
+    (whole ≡ ended texts terms.mode steady (left_on texts terms.mode terms.left at rest terms.slash)) × IsNoted texts at known steady
 PassedIs texts terms rest whole (passed.Off on) = GoesOn texts terms.mode terms.left whole on
 
 -- of a component that others follow

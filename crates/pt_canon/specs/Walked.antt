@@ -1,5 +1,6 @@
 -- What the steps of an answer leave of a walker. No public clause cites this module.
-use Rattle.std.specs.Prelude.{Bool, Result, Ok, Err, if◌then◌else◌}
+use Rattle.std.specs.Prelude.{Bool, Option, Result, Ok, Err, if◌then◌else◌}
+use Rattle.pt_canon.specs.KeptAnswers.{after_recall}
 use Rattle.pt_canon.specs.Remembering.{Key, Walking, with_newest}
 use Rattle.pt_canon.specs.declared.canon.Canon.{Canon}
 use Rattle.pt_canon.specs.declared.canon.WalkErr.{WalkErr}
@@ -9,6 +10,10 @@ use Rattle.pt_canon.specs.declared.walker.Walked.{Walked}
 abbrev pub answer_of : Result Walked WalkErr → Result Canon WalkErr
 answer_of (Ok walked) = Ok walked.canon
 answer_of (Err e) = Err e
+
+-- with the answer for a key as the newest, where it is remembered
+abbrev pub recalled : {E : Type 0} → Walking → Key → Result (Option Canon) E → Walking
+recalled w key result = record { table = w.table; pauses = w.pauses; remembered = after_recall w.remembered key result }
 
 -- with an answer whose walk is steady
 abbrev pub noted : {E : Type 0} → Walking → Key → Bool → Result Canon E → Walking

@@ -1,9 +1,10 @@
 //! The answers of the last walks.
 ghost use Rattle.std.specs.Prelude.{◌≡◌, [], None, length, IfOk, IfSome, OnOk, OnErr};
 ghost use Rattle.std.specs.Map.{lookup};
+ghost use Rattle.std.specs.NonZero.{non_zero_usize_get};
 ghost use Rattle.pt_bind.specs.Binding.{IsWritten};
-ghost use Rattle.pt_canon.specs.Kept.{after_recall};
-ghost use Rattle.pt_canon.specs.Remembering.{same_key, with_newest};
+ghost use Rattle.pt_canon.specs.KeptAnswers.{after_recall};
+ghost use Rattle.pt_canon.specs.Remembering.{most_remembered, same_key, with_newest};
 
 use crate::canon::Canon;
 use crate::key::Key;
@@ -14,7 +15,11 @@ use std::marker::Model;
 use std::num::NonZeroUsize;
 
 /// How many answers are remembered at most.
-const MOST_REMEMBERED: usize = 256;
+fn most_remembered() -> NonZeroUsize
+    ensures { non_zero_usize_get result ≡ most_remembered }
+{
+    NonZeroUsize::new(256).unwrap()
+}
 
 /// Answers under their keys, which contracts see as a list of both, the newest first.
 #[derive(Drop)]
@@ -24,7 +29,7 @@ pub(crate) struct Answers {
 
 impl Model for Answers {
     ghost use Rattle.std.specs.Prelude.{List};
-    ghost use Rattle.pt_canon.specs.Kept.{AreKept, entries_in};
+    ghost use Rattle.pt_canon.specs.KeptAnswers.{AreKept, entries_in};
     ghost use Rattle.pt_canon.specs.Remembering.{Key};
     ghost use Rattle.pt_canon.specs.declared.canon.Canon.{Canon};
 
@@ -40,9 +45,8 @@ impl Answers {
     pub(crate) fn new(alloc: Global) -> Result<Answers, NoMemory>
         ensures { IfOk result (λ answers. answers ≡ []) }
     {
-        let most = NonZeroUsize::new(MOST_REMEMBERED).unwrap();
         Ok(Answers {
-            cache: LruCache::sparse(alloc, most)?,
+            cache: LruCache::sparse(alloc, most_remembered())?,
         })
     }
 
@@ -54,11 +58,12 @@ impl Answers {
     {
         // For the proof alone: how many there are at most.
         let _count = self.cache.len();
-        let Some(canon) = self.cache.peek(key.bytes()) else {
+        let bytes = key.bytes();
+        let Some(canon) = self.cache.peek(bytes) else {
             return Ok(None);
         };
         let copy = canon.copy(alloc)?;
-        let _there = self.cache.promote(key.bytes());
+        let _there = self.cache.promote(bytes);
         Ok(Some(copy))
     }
 

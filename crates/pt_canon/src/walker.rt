@@ -1,11 +1,11 @@
 //! A tracer's walks, and what it remembers of the last ones.
-ghost use Rattle.std.specs.Prelude.{◌≡◌, ◌≢◌, ◌+◌, ◌-◌, ◌^◌, ◌<◌, ◌==◌, ◌&&◌, [], None, length, IfOk};
+ghost use Rattle.std.specs.Prelude.{◌≡◌, ◌≢◌, ◌+◌, ◌-◌, ◌^◌, ◌<◌, ◌==◌, ◌&&◌, [], None, length, IfOk, IfSome};
 ghost use Rattle.std.specs.Map.{lookup};
 ghost use Rattle.pt_bind.specs.Binding.{IsWritten, names_of};
 ghost use Rattle.pt_canon.specs.Canon.{IsAnswer, canon_of, texts_by};
 ghost use Rattle.pt_canon.specs.Leaving.{OnlyPeeks};
 ghost use Rattle.pt_canon.specs.Remembering.{Agrees, WalksOn, after_walk, is_steady_key, key_of, same_key};
-ghost use Rattle.pt_canon.specs.Walked.{answer_of, noted};
+ghost use Rattle.pt_canon.specs.Walked.{answer_of, noted, recalled};
 
 use crate::answers::Answers;
 use crate::canon::{Canon, WalkErr};
@@ -132,8 +132,8 @@ impl Walker {
         ensures kernel { OnlyPeeks K.peeked K.kept kernel.old kernel.new }
     {
         if self.pauses != 0 {
-            let walked = self.walked(kernel, tags, base, path, mode, false)?;
-            return Ok(walked.canon);
+            let Walked { canon, steady: _ } = self.walked(kernel, tags, base, path, mode, false)?;
+            return Ok(canon);
         }
         self.unpaused_answer(kernel, tags, base, path, mode)
     }
@@ -157,13 +157,24 @@ impl Walker {
         ensures kernel { OnlyPeeks K.peeked K.kept kernel.old kernel.new }
     {
         let key = Key::of(self.alloc, base, path, mode)?;
-        match self.answers.recall(self.alloc, &key)? {
+        let found = self.recalled(&key)?;
+        match found {
             Some(canon) => Ok(canon),
             None => {
                 let walked = self.walked(kernel, tags, base, path, mode, true)?;
                 Ok(self.note(key, walked)?)
             }
         }
+    }
+
+    /// The answer that is remembered for a key, which becomes the newest.
+    fn recalled(&mut self, key: &Key) -> Result<Option<Canon>, NoMemory>
+        requires { self.old.pauses ≡ 0 }
+        ensures answer { IfOk result (λ found. found ≡ lookup (same_key key.now) self.old.remembered) }
+        ensures written { IfOk result (λ found. IfSome found (λ canon. IsWritten canon.guest)) }
+        ensures newest { self.new ≡ recalled self.old key.now result }
+    {
+        self.answers.recall(self.alloc, key)
     }
 
     /// The answer of a walk, and whether it is steady, if it is asked.

@@ -1,4 +1,4 @@
-use Rattle.std.proofs.Common.{◌≡◌, ◌∙◌, ◌&&◌, Bool, true, false, ap, refl, subst, sym}
+use Rattle.std.proofs.Common.{◌≡◌, ◌∙◌, ◌&&◌, Bool, true, false, ap, refl, sym}
 use Rattle.pt_bind.specs.pr_base.Peeks.{Peeked}
 use Rattle.pt_bind.specs.Binding.{host_of, names_of}
 use Rattle.pt_bind.proofs.TagLemmas.{if_ok}

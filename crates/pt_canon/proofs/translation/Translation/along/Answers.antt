@@ -76,8 +76,8 @@ parts-preserved g c =
     behind following more (ap parts_of c.rest-behind.ensures) c.in-Some-next.ensures.steps c.in_ok-on.field-0 c.in-On.on c.in-On.found c.in-On.still told c.in-On.is in
     record {
       ends = on.0;
-      known = on.1.0;
-      asked = on.1.1;
+      known = on.1.found;
+      asked = on.1.asked;
       fine = parts_behind loop.part.now following (parts_left loop.parts) more c.in-Some-next.ensures.steps loop.invariant.fine;
       same = c.in_middle.ensures.kernel.same ∙ loop.invariant.same;
       rest = c.in_middle.ensures.kernel.rest ∙ loop.invariant.rest;

@@ -42,7 +42,7 @@ returns-in-Dot-clause-answer g c =
     let flag : looked texts terms.steady at part ≡ still = sym (is ∙ looked_dot texts at terms.steady part may (ap component_data c.in-Dot.is)) in (
       middle_dots texts terms (looked texts terms.steady at part) at at part rest (dot_looked texts terms still at part may (ap component_data c.in-Dot.is))
           ∙ ap (λ b. ended texts terms.mode b (left_on texts terms.mode terms.left at rest terms.slash)) flag,
-      (may, entered_asked texts at terms.steady still is),
+      record { found = may; asked = entered_asked texts at terms.steady still is },
     )
 
 pub returns-in-DotDot-clause-answer : goal.returns-in-DotDot-clause-answer
@@ -61,7 +61,7 @@ returns-in-DotDot-clause-answer g c =
     let up = middle_dots texts terms (looked texts terms.steady at part) at (above at) part rest (dot_dot_looked texts terms still at part may (ap component_data c.in-DotDot.is)) in (
       up ∙ ap (λ b. ended texts terms.mode b (left_on texts terms.mode terms.left (above at) rest terms.slash)) flag
           ∙ ap (λ q. ended texts terms.mode still (left_on texts terms.mode terms.left q rest terms.slash)) (sym c.above.ensures),
-      (tt, tt),
+      record { found = tt; asked = tt },
     )
 
 pub pass-requires-clause-asked : goal.pass-requires-clause-asked

@@ -15,7 +15,7 @@ returns-in-Directory-clause-answer g c =
     let at = c.args.at in
     let shown : seen_text texts at ≡ Leads true at at = c.requires.seen ∙ ap (sight_seen texts at) c.in-Directory.is in (
       ap (λ s. ended texts c.args.terms.mode c.args.terms.steady (middle_trail texts c.args.terms (above at) (components_of c.args.behind.now) (sight_seen texts at s))) c.in-Directory.is,
-      (seen_dir texts at shown, c.requires.asked),
+      record { found = seen_dir texts at shown; asked = c.requires.asked },
     )
 
 pub returns-in_ok-start-in-Links-clause-answer : goal.returns-in_ok-start-in-Links-clause-answer
