@@ -1,5 +1,5 @@
 -- A walker that processes pause.
-use Rattle.std.proofs.Common.{◌≡◌, ◌≢◌, ◌∙◌, ◌+◌, ◌-◌, ℕ, Bool, true, false, cond, List, [], ◌∷◌, length, arith, refl, sym, ap, subst}
+use Rattle.std.proofs.Common.{◌≡◌, ◌≢◌, ◌∙◌, ◌+◌, ◌-◌, ℕ, Bool, true, false, cond, List, [], ◌∷◌, length, arith, sym, ap, subst}
 use Rattle.std.specs.Ordering.{eq_by_cmp, nat_cmp}
 use Rattle.pr_base.proofs.MapLemmas.{ties-other}
 use Rattle.pt_faker.specs.Stopping.{Stopped}

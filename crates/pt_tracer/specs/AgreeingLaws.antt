@@ -1,5 +1,5 @@
 -- Where what a walker remembers agrees with a tree still. No clause cites this module.
-use Rattle.std.proofs.Common.{◌≡◌, ◌≢◌, ◌∙◌}
+use Rattle.std.proofs.Common.{◌≢◌, ◌∙◌}
 use Rattle.law_steady.specs.kr_model.Judged.{HasShape}
 use Rattle.law_steady.specs.kr_tree.Tree.{Tree}
 use Rattle.pt_faker.specs.kr_inode.declared.user.User.{User}

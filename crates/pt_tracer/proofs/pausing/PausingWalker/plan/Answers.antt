@@ -1,4 +1,4 @@
-use Rattle.std.proofs.Common.{◌∙◌, ap, subst, sym}
+use Rattle.std.proofs.Common.{◌∙◌, subst, sym}
 use Rattle.pt_tracer.specs.Agreeing.{AgreesWith, WalksAt}
 use Rattle.pt_tracer.specs.Pausing.{Pausing}
 use Rattle.pt_tracer.proofs.pausing.PausingWalker.plan.Goals as goal

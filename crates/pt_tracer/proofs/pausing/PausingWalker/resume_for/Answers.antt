@@ -1,4 +1,4 @@
-use Rattle.std.proofs.Common.{◌≡◌, ◌∙◌, ◌+◌, ◌-◌, ℕ, Bool, true, false, if◌then◌else◌, length, ap, arith, subst, sym}
+use Rattle.std.proofs.Common.{◌≡◌, ◌∙◌, ◌+◌, if◌then◌else◌, length, ap, arith, subst, sym}
 use Rattle.pt_faker.specs.kr_stops.Remembering.{KeepsOthersFree, StillAgrees}
 use Rattle.pt_canon.specs.Remembering.{Walking}
 use Rattle.pt_tracer.specs.Agreeing.{AgreesWith}

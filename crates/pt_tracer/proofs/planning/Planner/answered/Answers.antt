@@ -1,4 +1,4 @@
-use Rattle.pt_tracer.proofs.AgreeLemmas.{agrees-told, walks-at, walks-none}
+use Rattle.pt_tracer.proofs.AgreeLemmas.{agrees-told, walks-at}
 use Rattle.pt_tracer.proofs.planning.Planner.answered.Goals as goal
 
 pub link_answer-requires : goal.link_answer-requires

@@ -4,7 +4,6 @@ use Rattle.pt_faker.proofs.StopLemmas.{on_ok}
 use Rattle.pt_tracer.specs.Agreeing.{AgreesWith}
 use Rattle.pt_tracer.specs.Keeping.{Keeping}
 use Rattle.pt_tracer.specs.Pausing.{IsPausedFor}
-use Rattle.pt_tracer.specs.Watched.{Tracing}
 use Rattle.pt_tracer.proofs.tracer.Tracer.pause_at.Goals as goal
 
 pub pause_at-requires : goal.pause_at-requires

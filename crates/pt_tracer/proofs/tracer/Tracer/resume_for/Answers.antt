@@ -3,7 +3,6 @@ use Rattle.pt_bind.specs.Binding.{rows_of}
 use Rattle.pt_tracer.specs.Agreeing.{AgreesWith}
 use Rattle.pt_tracer.specs.Keeping.{Keeping}
 use Rattle.pt_tracer.specs.Pausing.{IsPausedFor}
-use Rattle.pt_tracer.specs.Watched.{Tracing}
 use Rattle.pt_tracer.proofs.tracer.Tracer.resume_for.Goals as goal
 
 pub returns-clause-tracing : goal.returns-clause-tracing

@@ -1,4 +1,4 @@
-use Rattle.std.proofs.Common.{◌≡◌, ◌∙◌, SFits, Some, None, ap, refl, rules, subst, sym, w64}
+use Rattle.std.proofs.Common.{◌≡◌, ◌∙◌, SFits, ap, rules, subst, sym, w64}
 use Rattle.std.proofs.Math.Facts.{to_z-of_z}
 use Rattle.pt_bind.specs.Binding.{rows_of}
 use Rattle.pt_faker.proofs.StopLemmas.{on_ok, only-then}
