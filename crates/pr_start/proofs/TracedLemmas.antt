@@ -13,19 +13,19 @@ use Rattle.kr_core.specs.kr_first.declared.starting.StartFault.{StartFault}
 use Rattle.kr_core.specs.kr_first.declared.starting.StartFault.TheVariants as fault
 use Rattle.kr_core.specs.Runs.{Machine}
 use Rattle.kr_core.specs.Kernel.{Starts}
+use Rattle.pt_tracer.specs.Keeping.{Keeping}
 use Rattle.pt_tracer.specs.Watched.{Tracing}
-use Rattle.pt_tracer.specs.declared.tracer.Tracer.{Tracer}
 use Rattle.pr_start.specs.TracedBeginning.{BeginsTraced, TracedKernel, fresh, host_number, traced_machine}
 
-pub begins-from : (places : Plain) (tracer : Tracer) (reach : Reach) (answer : Result (State ℕ Image) Errno) (result : Result TracedKernel StartFault)
-    → Starts {M = 0} host_number places tracer reach answer result → BeginsTraced (and_then answer (λ s. Ok (fresh tracer s))) result
+pub begins-from : (places : Plain) (tracer : Keeping) (reach : Reach) (answer : Result (State ℕ Image) Errno) (result : Result TracedKernel StartFault)
+    → Starts {M = 0} host_number places tracer reach answer result → BeginsTraced (and_then answer (λ s. Ok (fresh tracer.tracing s))) result
 begins-from places tracer reach answer (Ok k) starts =
     let b = starts.1 in
-    let same : fresh tracer (traced_machine k).state ≡ traced_machine k = λ i. record {
+    let same : fresh tracer.tracing (traced_machine k).state ≡ traced_machine k = λ i. record {
       state = (traced_machine k).state;
-      watcher = sym b.stops_are i;
+      watcher = (sym b.stops_are i).tracing;
       tally = record { status = sym b.status i; broken = sym b.broken i };
     } in
-    (ap (λ (a : Result (State ℕ Image) Errno). and_then a (λ s. Ok (fresh tracer s))) starts.0 ∙ ap (λ (m : Machine Tracing). Ok m) same, b.turns, b.whole)
-begins-from places tracer reach answer (Err (fault.Err e)) starts = ap (λ (a : Result (State ℕ Image) Errno). and_then a (λ s. Ok (fresh tracer s))) starts
+    (ap (λ (a : Result (State ℕ Image) Errno). and_then a (λ s. Ok (fresh tracer.tracing s))) starts.0 ∙ ap (λ (m : Machine Tracing). Ok m) same, b.turns, b.whole)
+begins-from places tracer reach answer (Err (fault.Err e)) starts = ap (λ (a : Result (State ℕ Image) Errno). and_then a (λ s. Ok (fresh tracer.tracing s))) starts
 begins-from places tracer reach answer (Err fault.NoMemory) starts = tt

@@ -22,6 +22,7 @@ use Rattle.pt_first.specs.FirstPeeks.{first_peeked}
 use Rattle.pt_first.specs.GuestStart.{guest_start, tagged}
 use Rattle.pt_first.specs.declared.begun.Begun.{Begun}
 use Rattle.pr_words.specs.declared.launch.Launch.{Launch}
+use Rattle.pt_tracer.specs.Keeping.{Keeping}
 use Rattle.pt_tracer.specs.Watched.{starting_tracing}
 pub use Rattle.pt_tracer.specs.Watched.{Tracing, tracer}
 
@@ -50,10 +51,10 @@ module _ (bindings : List MountText) (tree : Tree) (user : User) (ids : Option (
 
 -- a plain kernel with its tracer, and its machine with the part of what the tracer keeps of which the definition speaks
 abbrev pub TracedKernel : Type 0
-TracedKernel = kernel.Kernel Plain Tracing HostMount 0
+TracedKernel = kernel.Kernel Plain Keeping HostMount 0
 
 abbrev pub traced_machine : TracedKernel → Machine Tracing
-traced_machine k = machine_by host_number (λ tracing. tracing) k
+traced_machine k = machine_by host_number (λ keeping. keeping.tracing) k
 
 -- a kernel begins as the definition says, before its first turn, or its error is answered, but for want of memory
 abbrev pub BeginsTraced : Result (Machine Tracing) Errno → Result TracedKernel StartFault → Type 0

@@ -1,14 +1,18 @@
 //! The start.
-ghost use Rattle.std.specs.Prelude.{◌≡◌};
+ghost use Rattle.std.specs.Prelude.{◌≡◌, []};
 ghost use Rattle.kr_mounts.specs.Standing.{texts_of};
 ghost use Rattle.kr_mounts.specs.Stored.{table_of};
 ghost use Rattle.kr_start.specs.Ready.{IsReady};
 ghost use Rattle.pt_bind.specs.Binding.{rows_of};
+ghost use Rattle.pt_canon.specs.Canon.{texts_by};
+ghost use Rattle.pt_first.specs.FirstPeeks.{first_peeked};
+ghost use Rattle.pt_first.specs.GuestStart.{IsBegun, guest_start};
 ghost use Rattle.pr_start.specs.TracedBeginning.{BeginsTraced, traced_beginning};
 
 use kr_core::Kernel;
-use kr_core::below::StartFault;
+use kr_core::below::{First, StartFault};
 use kr_start::Stage;
+use kr_tree::{Tree, User};
 use kr_view::Plain;
 use pr_base::Bytes;
 use pr_words::Launch;
@@ -44,11 +48,31 @@ pub fn start_traced(
         return Err(StartFault::NoMemory);
     };
     let mut tags = Tags::new(alloc);
-    match first(alloc, &mut walker, &mut tags, &tree, user, launch) {
+    match first_found(alloc, &mut walker, &mut tags, &tree, user, launch) {
         Ok(first) => {
             let tracer = Tracer::new(alloc, walker, tags, user, ids);
             Kernel::start(alloc, Plain::new(), tracer, tree, user, input, first)
         }
         Err(fault) => Err(fault),
     }
+}
+
+/// Finds the first process of a launch, as `first` does, by a walker without a pause, and lets it remember nothing of what is told before a process
+/// lives.
+fn first_found(
+    alloc: Global,
+    walker: &mut Walker,
+    tags: &mut Tags,
+    tree: &Tree,
+    user: User,
+    launch: Launch,
+) -> Result<First, StartFault>
+    requires unpaused { walker.old.pauses ≡ 0 }
+    ensures begins { IsBegun (guest_start (texts_by walker.old.table (first_peeked tree.now user) tags.old) launch) tags.old tags.new result }
+    ensures walker { walker.new ≡ record { table = walker.old.table; pauses = 0; remembered = [] } }
+{
+    walker.pause();
+    let found = first(alloc, walker, tags, tree, user, launch);
+    walker.resume();
+    found
 }

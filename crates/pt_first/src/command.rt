@@ -4,6 +4,7 @@ ghost use Rattle.pt_bind.specs.Binding.{IsWritten};
 ghost use Rattle.pt_canon.specs.Canon.{texts_by};
 ghost use Rattle.pt_first.specs.GuestStart.{chosen, is_there, searched};
 ghost use Rattle.pt_canon.specs.Leaving.{OnlyPeeks};
+ghost use Rattle.pt_canon.specs.Remembering.{Agrees, WalksOn};
 
 use crate::launcher::Launcher;
 use pr_base::{Bytes, NoMemory, Peeks, Texts, is_walked};
@@ -19,10 +20,11 @@ impl<'a> Launcher<'a> {
         walker: &mut Walker,
         path: &[u8],
     ) -> Result<bool, NoMemory>
-        requires { IsWritten self.now.working.now }
-        ensures there { let texts = texts_by walker.old (K.peeked kernel.old) self.now.tags.now in
+        requires working { IsWritten self.now.working.now }
+        requires agrees { Agrees walker.old (K.peeked kernel.old) }
+        ensures there { let texts = texts_by walker.old.table (K.peeked kernel.old) self.now.tags.now in
             IfOk result (λ there. there ≡ is_there texts self.now.working.now path.now) }
-        ensures walker { walker.new ≡ walker.old }
+        ensures walker { WalksOn (K.peeked kernel.old) walker.old walker.new }
         ensures kernel { OnlyPeeks K.peeked K.kept kernel.old kernel.new }
     {
         if !is_walked(path) {
@@ -50,10 +52,11 @@ impl<'a> Launcher<'a> {
         word: &[u8],
         dirs: &[&[u8]],
     ) -> Result<Option<Bytes>, NoMemory>
-        requires { IsWritten self.now.working.now }
-        ensures path { let texts = texts_by walker.old (K.peeked kernel.old) self.now.tags.now in
+        requires working { IsWritten self.now.working.now }
+        requires agrees { Agrees walker.old (K.peeked kernel.old) }
+        ensures path { let texts = texts_by walker.old.table (K.peeked kernel.old) self.now.tags.now in
             IfOk result (λ path. path ≡ searched texts self.now.working.now word.now (map (λ dir. dir.now) dirs.now)) }
-        ensures walker { walker.new ≡ walker.old }
+        ensures walker { WalksOn (K.peeked kernel.old) walker.old walker.new }
         ensures kernel { OnlyPeeks K.peeked K.kept kernel.old kernel.new }
     {
         let Some((dir, others)) = dirs.split_first() else {
@@ -74,10 +77,11 @@ impl<'a> Launcher<'a> {
         env: &Texts,
         word: &[u8],
     ) -> Result<Option<Bytes>, NoMemory>
-        requires { IsWritten self.now.working.now }
-        ensures path { let texts = texts_by walker.old (K.peeked kernel.old) self.now.tags.now in
+        requires working { IsWritten self.now.working.now }
+        requires agrees { Agrees walker.old (K.peeked kernel.old) }
+        ensures path { let texts = texts_by walker.old.table (K.peeked kernel.old) self.now.tags.now in
             IfOk result (λ path. path ≡ chosen texts self.now.working.now env.now word.now) }
-        ensures walker { walker.new ≡ walker.old }
+        ensures walker { WalksOn (K.peeked kernel.old) walker.old walker.new }
         ensures kernel { OnlyPeeks K.peeked K.kept kernel.old kernel.new }
     {
         if has_slash(word) {

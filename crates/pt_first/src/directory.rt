@@ -5,6 +5,7 @@ ghost use Rattle.pt_canon.specs.Canon.{IsAnswer, texts_by};
 ghost use Rattle.pt_script.specs.Programs.{canon_from};
 ghost use Rattle.pt_first.specs.GuestStart.{directory_at, working_directory};
 ghost use Rattle.pt_canon.specs.Leaving.{OnlyPeeks};
+ghost use Rattle.pt_canon.specs.Remembering.{Agrees, WalksOn};
 
 use pr_base::{Bytes, NoMemory, Peeks, WalkMode, is_walked};
 use pt_bind::Tags;
@@ -22,10 +23,11 @@ pub(crate) fn canon_from<K: Peeks>(
     path: &[u8],
     base: &[u8],
 ) -> Result<Canon, WalkErr>
-    requires { IsWritten base.now }
-    ensures answer { IsAnswer (canon_from (texts_by walker.old (K.peeked kernel.old) tags.now) path.now base.now) result }
+    requires base { IsWritten base.now }
+    requires agrees { Agrees walker.old (K.peeked kernel.old) }
+    ensures answer { IsAnswer (canon_from (texts_by walker.old.table (K.peeked kernel.old) tags.now) path.now base.now) result }
     ensures written { IfOk result (λ canon. IsWritten canon.guest) }
-    ensures walker { walker.new ≡ walker.old }
+    ensures walker { WalksOn (K.peeked kernel.old) walker.old walker.new }
     ensures kernel { OnlyPeeks K.peeked K.kept kernel.old kernel.new }
 {
     walker.canon(kernel, tags, base, path, WalkMode::Look)
@@ -38,9 +40,10 @@ fn directory_at<K: Peeks>(
     tags: &Tags,
     path: &[u8],
 ) -> Result<Canon, WalkErr>
-    ensures answer { IsAnswer (directory_at (texts_by walker.old (K.peeked kernel.old) tags.now) path.now) result }
+    requires agrees { Agrees walker.old (K.peeked kernel.old) }
+    ensures answer { IsAnswer (directory_at (texts_by walker.old.table (K.peeked kernel.old) tags.now) path.now) result }
     ensures written { IfOk result (λ canon. IsWritten canon.guest) }
-    ensures walker { walker.new ≡ walker.old }
+    ensures walker { WalksOn (K.peeked kernel.old) walker.old walker.new }
     ensures kernel { OnlyPeeks K.peeked K.kept kernel.old kernel.new }
 {
     let found = canon_from(kernel, walker, tags, path, ROOT)?;
@@ -56,9 +59,10 @@ pub(crate) fn working_directory<K: Peeks>(
     tags: &Tags,
     path: &[u8],
 ) -> Result<Bytes, NoMemory>
-    ensures text { IfOk result (λ text. text ≡ working_directory (texts_by walker.old (K.peeked kernel.old) tags.now) path.now) }
+    requires agrees { Agrees walker.old (K.peeked kernel.old) }
+    ensures text { IfOk result (λ text. text ≡ working_directory (texts_by walker.old.table (K.peeked kernel.old) tags.now) path.now) }
     ensures written { IfOk result IsWritten }
-    ensures walker { walker.new ≡ walker.old }
+    ensures walker { WalksOn (K.peeked kernel.old) walker.old walker.new }
     ensures kernel { OnlyPeeks K.peeked K.kept kernel.old kernel.new }
 {
     if !is_walked(path) {

@@ -6,7 +6,9 @@
 //!
 //! `first` begins exactly as the definition says, or answers its errno and sets no tag; where memory is wanting the tags are as before (`begins`;
 //! `guest_start`): the first working directory, the command, the program behind its scripts, each found by walks over guest texts; its tags are
-//! those of the working directory and of the program. `FirstPeeks` tells what a kernel without processes would (`first_peeked`).
+//! those of the working directory and of the program. `FirstPeeks` tells what a kernel without processes would (`first_peeked`). `first`
+//! asks that what its walker remembers agrees with that (`agrees`), and so it does behind it, whatever it answers; the walker's table and pauses are
+//! as before (`walker`).
 //!
 //! The plain kernel can begin with what it finds: the program's path is a text, and the working directory's path leads to a directory
 //! (`firsts_can_start`).

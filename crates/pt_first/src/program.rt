@@ -7,6 +7,7 @@ ghost use Rattle.kr_first.specs.kr_exec.Exec.{are_too_big};
 ghost use Rattle.kr_first.specs.Starting.{path_errno};
 ghost use Rattle.pt_first.specs.GuestStart.{base_of, handed, if_short, run_from, run_with};
 ghost use Rattle.pt_canon.specs.Leaving.{OnlyPeeks};
+ghost use Rattle.pt_canon.specs.Remembering.{Agrees, WalksOn};
 
 use crate::directory::{ROOT, canon_from};
 use crate::launcher::Launcher;
@@ -69,10 +70,11 @@ impl<'a> Launcher<'a> {
         env: &Texts,
         path: &[u8],
     ) -> Result<Expanded, WalkErr>
-        requires { IsWritten self.now.working.now }
-        ensures answer { let texts = texts_by walker.old (K.peeked kernel.old) self.now.tags.now in
+        requires working { IsWritten self.now.working.now }
+        requires agrees { Agrees walker.old (K.peeked kernel.old) }
+        ensures answer { let texts = texts_by walker.old.table (K.peeked kernel.old) self.now.tags.now in
             IsAnswer (run_from texts self.now.working.now args env.now path.now) result }
-        ensures walker { walker.new ≡ walker.old }
+        ensures walker { WalksOn (K.peeked kernel.old) walker.old walker.new }
         ensures kernel { OnlyPeeks K.peeked K.kept kernel.old kernel.new }
     {
         if !is_walked(path) {
@@ -89,10 +91,11 @@ impl<'a> Launcher<'a> {
         walker: &mut Walker,
         path: &[u8],
     ) -> Result<Canon, WalkErr>
-        requires { IsWritten self.now.working.now }
-        ensures answer { let texts = texts_by walker.old (K.peeked kernel.old) self.now.tags.now in
+        requires working { IsWritten self.now.working.now }
+        requires agrees { Agrees walker.old (K.peeked kernel.old) }
+        ensures answer { let texts = texts_by walker.old.table (K.peeked kernel.old) self.now.tags.now in
             IsAnswer (handed texts self.now.working.now path.now) result }
-        ensures walker { walker.new ≡ walker.old }
+        ensures walker { WalksOn (K.peeked kernel.old) walker.old walker.new }
         ensures kernel { OnlyPeeks K.peeked K.kept kernel.old kernel.new }
     {
         let base = base_of(self.working, path);
@@ -112,10 +115,11 @@ impl<'a> Launcher<'a> {
         env: &Texts,
         path: &[u8],
     ) -> Result<Expanded, WalkErr>
-        requires { IsWritten self.now.working.now }
-        ensures answer { let texts = texts_by walker.old (K.peeked kernel.old) self.now.tags.now in
+        requires working { IsWritten self.now.working.now }
+        requires agrees { Agrees walker.old (K.peeked kernel.old) }
+        ensures answer { let texts = texts_by walker.old.table (K.peeked kernel.old) self.now.tags.now in
             IsAnswer (run_with texts self.now.working.now args env.now path.now) result }
-        ensures walker { walker.new ≡ walker.old }
+        ensures walker { WalksOn (K.peeked kernel.old) walker.old walker.new }
         ensures kernel { OnlyPeeks K.peeked K.kept kernel.old kernel.new }
     {
         let working = Some(self.working);

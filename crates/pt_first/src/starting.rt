@@ -5,6 +5,7 @@ ghost use Rattle.pt_canon.specs.Canon.{IsAnswer, texts_by};
 ghost use Rattle.pt_first.specs.FirstPeeks.{first_peeked};
 ghost use Rattle.pt_first.specs.GuestStart.{IsBegun, begun, guest_start, tagged};
 ghost use Rattle.pt_canon.specs.Leaving.{OnlyPeeks};
+ghost use Rattle.pt_canon.specs.Remembering.{Agrees, WalksOn};
 
 use crate::begun::Begun;
 use crate::directory::working_directory;
@@ -31,7 +32,8 @@ const NOWHERE: Reach = Reach {
 
 /// The first process of a launch, by what a kernel tells before a process lives, and its tags. A command without a slash is the first program
 /// of that name in the directories of PATH, ENOENT where there is none; else the errors are those of execve(2) of a process in the
-/// working directory. Where none begins, also for want of memory, no tag is set.
+/// working directory. Where none begins, also for want of memory, no tag is set. What the walker remembers must agree with what the kernel tells;
+/// it may remember other answers then, also where none begins, and agrees still.
 pub fn first_by<K: Peeks>(
     alloc: Global,
     kernel: &mut K,
@@ -39,8 +41,9 @@ pub fn first_by<K: Peeks>(
     tags: &mut Tags,
     launch: Launch,
 ) -> Result<First, StartFault>
-    ensures begins { IsBegun (guest_start (texts_by walker.old (K.peeked kernel.old) tags.old) launch) tags.old tags.new result }
-    ensures walker { walker.new ≡ walker.old }
+    requires agrees { Agrees walker.old (K.peeked kernel.old) }
+    ensures begins { IsBegun (guest_start (texts_by walker.old.table (K.peeked kernel.old) tags.old) launch) tags.old tags.new result }
+    ensures walker { WalksOn (K.peeked kernel.old) walker.old walker.new }
     ensures kernel { OnlyPeeks K.peeked K.kept kernel.old kernel.new }
 {
     match begin(alloc, kernel, walker, tags, launch) {
@@ -54,7 +57,7 @@ pub fn first_by<K: Peeks>(
 }
 
 /// The first process of a launch over a tree in which no process lives, in the name of a user, and its tags. The errors are those of
-/// `first_by`, and where none begins no tag is set.
+/// `first_by`, and where none begins no tag is set. So is what is asked of the walker, and what is left of it.
 pub fn first(
     alloc: Global,
     walker: &mut Walker,
@@ -63,8 +66,9 @@ pub fn first(
     user: User,
     launch: Launch,
 ) -> Result<First, StartFault>
-    ensures begins { IsBegun (guest_start (texts_by walker.old (first_peeked tree.now user) tags.old) launch) tags.old tags.new result }
-    ensures walker { walker.new ≡ walker.old }
+    requires agrees { Agrees walker.old (first_peeked tree.now user) }
+    ensures begins { IsBegun (guest_start (texts_by walker.old.table (first_peeked tree.now user) tags.old) launch) tags.old tags.new result }
+    ensures walker { WalksOn (first_peeked tree.now user) walker.old walker.new }
 {
     let mut kernel = FirstPeeks::new(alloc, tree, user);
     first_by(alloc, &mut kernel, walker, tags, launch)
@@ -86,8 +90,9 @@ fn begin<K: Peeks>(
     tags: &Tags,
     launch: Launch,
 ) -> Result<Begun, WalkErr>
-    ensures answer { IsAnswer (guest_start (texts_by walker.old (K.peeked kernel.old) tags.now) launch) result }
-    ensures walker { walker.new ≡ walker.old }
+    requires agrees { Agrees walker.old (K.peeked kernel.old) }
+    ensures answer { IsAnswer (guest_start (texts_by walker.old.table (K.peeked kernel.old) tags.now) launch) result }
+    ensures walker { WalksOn (K.peeked kernel.old) walker.old walker.new }
     ensures kernel { OnlyPeeks K.peeked K.kept kernel.old kernel.new }
 {
     let Launch {

@@ -4,7 +4,11 @@ pub use Rattle.pt_faker.proofs.law_lawful as law_lawful
 pub use Rattle.pt_faker.proofs.kr_exec as kr_exec
 pub use Rattle.pt_faker.proofs.kr_stops as kr_stops
 pub use Rattle.pt_bind.proofs as pt_bind
+pub use Rattle.pt_canon.proofs as pt_canon
+pub use Rattle.law_steady.proofs as law_steady
+pub mod AgreeLemmas
 mod EntryLemmas
+mod PauseLemmas
 mod PlanLemmas
 mod PokeLemmas
 mod ShelfLemmas

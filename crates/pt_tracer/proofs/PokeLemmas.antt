@@ -1,5 +1,5 @@
 -- Bytes that are written one after the other.
-use Rattle.std.proofs.Common.{◌≡◌, ◌∙◌, ◌&&◌, ℕ, ℤ, Bool, true, List, [], ◌∷◌, length, Some, if◌then◌else◌, refl, sym, ap, subst}
+use Rattle.std.proofs.Common.{◌≡◌, ◌∙◌, ◌&&◌, ℕ, ℤ, true, List, [], ◌∷◌, length, Some, if◌then◌else◌, refl, sym, ap}
 use Rattle.pr_base.specs.declared.errno.Errno.TheVariants.{EFAULT}
 use Rattle.rv_mem.specs.Memory.{Memory, with_pages}
 use Rattle.rv_mem.specs.Pages.{allows_all, written}

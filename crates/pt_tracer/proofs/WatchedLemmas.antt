@@ -1,5 +1,5 @@
 -- Identities that were taken out and kept again, and what else the code does beside the definition.
-use Rattle.std.proofs.Common.{◌≡◌, ◌∙◌, ℕ, ℤ, Option, sym, ap, subst}
+use Rattle.std.proofs.Common.{◌≡◌, ◌∙◌, ℕ, ℤ, Option, ap, subst}
 use Rattle.pt_results.specs.kr_calls.declared.request.Request.{Request}
 use Rattle.pt_faker.specs.Stopping.{register_at, Stopped}
 use Rattle.pt_faker.specs.pt_ident.Identity.{Identity, after_exec, effect}

@@ -16,7 +16,7 @@ use Rattle.pt_results.specs.kr_calls.declared.request.Request.TheVariants as cal
 use Rattle.pt_faker.specs.Stopping.{after_request, decoded_at, memory_at, register_at, Stopped, Watcher, with_memory, with_register}
 use Rattle.pt_bind.specs.Tags.{TagTable, dropped, forked, with_tag}
 use Rattle.pt_bind.specs.declared.slot.Slot.TheVariants.{Exe}
-use Rattle.pt_faker.specs.pt_ident.Identity.{Effect, Identity, after_exec, effect, on_memory, refusal}
+use Rattle.pt_faker.specs.pt_ident.Identity.{Effect, after_exec, effect, on_memory, refusal}
 use Rattle.pt_faker.specs.pt_ident.IdentityTable.{IdentityTable, after_birth, after_end, identity_at, starts_as_root, with_identity}
 use Rattle.pt_results.specs.pt_args.declared.edit.Edit.{Edit}
 use Rattle.pt_results.specs.pt_args.declared.edit.Edit.TheVariants.{Cancel, Emulate, Pass, Swap}

@@ -1,5 +1,6 @@
 //! Laws of the definitions, each carried by a function that does nothing.
 ghost use Rattle.pt_faker.specs.Stopping.{IsGraph, watching};
+ghost use Rattle.pt_tracer.specs.Keeping.{Keeping};
 ghost use Rattle.pt_tracer.specs.TracerLaws.{ComeAndGo, EntriesForget, ExitsFollowEntries, OthersStay};
 ghost use Rattle.pt_tracer.specs.Watched.{tracer};
 
@@ -26,7 +27,8 @@ pub fn come_and_go()
     ensures { ComeAndGo }
 {}
 
-/// What the tracer does at the stops, and as processes come and go, are the definition's functions: so turns and runs with it are.
+/// What the tracer does at the stops, and as processes come and go, are the definition's functions on what it traces: so turns and runs with it
+/// are, whatever it remembers.
 pub fn tracer_is_its_definition()
-    ensures { IsGraph (λ x. x) (watching ⟦<Tracer as Stops>⟧.enters ⟦<Tracer as Stops>⟧.exits ⟦<Tracer as Stops>⟧.bears ⟦<Tracer as Stops>⟧.forgets) tracer }
+    ensures { IsGraph (λ (x : Keeping). x.tracing) (watching ⟦<Tracer as Stops>⟧.enters ⟦<Tracer as Stops>⟧.exits ⟦<Tracer as Stops>⟧.bears ⟦<Tracer as Stops>⟧.forgets) tracer }
 {}

@@ -12,13 +12,21 @@
 //! identity that is faked; at the exit stop the registers are given back (what was written below the stack pointer stays), results are told in
 //! guest terms, tags are noted, and what the host user owns is shown as the identity's.
 //!
+//! Beside what it traces a tracer keeps a walker, which may remember answers of its walks from stop to stop. What it remembers *agrees* with the tree:
+//! each answer is that of its walk now. A stop needs that and keeps it (`agrees`), and it lasts where the tree keeps its shape
+//! (`lasts_with_shape`). At the first stop of a call that can alter the shape the walker pauses for that process, so that nothing is remembered until
+//! its next stop or its end (`frees`, `others`); each process has a pause of its own. The definition's run doesn't see any of it
+//! (`tracer_is_its_definition` speaks of what is traced).
+//!
 //! Only tested, or not shown: the program's runs
 #![tactic(auto)]
 
+mod altering;
 mod answering;
 mod apply;
 pub mod below;
 pub mod laws;
+mod pausing;
 mod pending;
 pub mod plan;
 mod planning;

@@ -66,4 +66,11 @@ impl Calls {
     {
         self.kept.remove(&pid)
     }
+
+    /// Forgets the call that is kept of a process.
+    pub(crate) fn forget(&mut self, pid: u32)
+        ensures { self.new ≡ map.remove self.old pid }
+    {
+        let _call = self.take(pid);
+    }
 }

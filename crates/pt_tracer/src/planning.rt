@@ -6,6 +6,8 @@ ghost use Rattle.pt_results.specs.pt_canon.Leaving.{OnlyPeeks};
 ghost use Rattle.pt_script.specs.Expanding.{expanded_at};
 ghost use Rattle.pt_faker.specs.Stopping.{OnlyEdits};
 ghost use Rattle.pt_results.specs.pt_args.Edits.{first_of};
+ghost use Rattle.pt_faker.specs.kr_stops.Remembering.{AgreesAt};
+ghost use Rattle.pt_tracer.specs.Agreeing.{AgreesWith, WalksAt};
 ghost use Rattle.pt_tracer.specs.Planning.{answered, cancelled, execve_plan, expand_with, has_shelf, is_swap, led_at, led_in, led_reached, led_to, list_addresses, plan_for, planned, rewritten, script_plan, stack_at, texts_at};
 
 use crate::plan::{Led, NOWHERE, Plan};
@@ -46,8 +48,9 @@ pub(crate) struct Planner<'a> {
 impl<'a> Planner<'a> {
     /// What becomes of a call. Of execve(2) both lists are read before that is known. After want of memory the process may only be dropped.
     pub(crate) fn plan<T: Tracee>(&self, t: &mut T, walker: &mut Walker) -> Result<Plan, NoMemory>
-        ensures plan { IfOk result (λ plan. (plan, T.stopped t.new) ≡ planned (rows_of walker.old) self.now.tags.now (T.stopped t.old) self.now.request.now) }
-        ensures walker { walker.new ≡ walker.old }
+        requires agrees { AgreesAt AgreesWith walker.old (T.stopped t.old) }
+        ensures plan { IfOk result (λ plan. (plan, T.stopped t.new) ≡ planned (rows_of walker.old.table) self.now.tags.now (T.stopped t.old) self.now.request.now) }
+        ensures walker { WalksAt (T.stopped t.old) walker.old walker.new }
         ensures edits { OnlyEdits T.stopped T.around t.old t.new }
     {
         // For the proof alone: the process lives.
@@ -69,8 +72,9 @@ impl<'a> Planner<'a> {
 
     /// What becomes of any call but execve(2).
     fn plan_for<T: Tracee>(&self, t: &mut T, walker: &mut Walker) -> Result<Plan, NoMemory>
-        ensures plan { IfOk result (λ plan. plan ≡ plan_for (texts_at (rows_of walker.old) self.now.tags.now (T.stopped t.old)) (T.stopped t.old) self.now.request.now) }
-        ensures walker { walker.new ≡ walker.old }
+        requires agrees { AgreesAt AgreesWith walker.old (T.stopped t.old) }
+        ensures plan { IfOk result (λ plan. plan ≡ plan_for (texts_at (rows_of walker.old.table) self.now.tags.now (T.stopped t.old)) (T.stopped t.old) self.now.request.now) }
+        ensures walker { WalksAt (T.stopped t.old) walker.old walker.new }
         ensures process { OnlyPeeks T.stopped T.around t.old t.new }
     {
         if let Some(edit) = self.answered(t, walker)? {
@@ -83,8 +87,9 @@ impl<'a> Planner<'a> {
 
     /// The answer of getcwd(2), or of readlinkat(2) of a link of the process directory.
     fn answered<T: Tracee>(&self, t: &mut T, walker: &mut Walker) -> Result<Option<Edit>, NoMemory>
-        ensures edit { IfOk result (λ edit. edit ≡ answered (texts_at (rows_of walker.old) self.now.tags.now (T.stopped t.old)) (T.stopped t.old) self.now.request.now) }
-        ensures walker { walker.new ≡ walker.old }
+        requires agrees { AgreesAt AgreesWith walker.old (T.stopped t.old) }
+        ensures edit { IfOk result (λ edit. edit ≡ answered (texts_at (rows_of walker.old.table) self.now.tags.now (T.stopped t.old)) (T.stopped t.old) self.now.request.now) }
+        ensures walker { WalksAt (T.stopped t.old) walker.old walker.new }
         ensures process { OnlyPeeks T.stopped T.around t.old t.new }
     {
         let pid = t.pid();
@@ -102,10 +107,11 @@ impl<'a> Planner<'a> {
 
     /// A call whose guest paths become host paths, and where the first of them led.
     fn rewritten<T: Tracee>(&self, t: &mut T, walker: &mut Walker) -> Result<Rewritten, NoMemory>
-        ensures edit { IfOk result (λ r. r.edit ≡ rewritten (texts_at (rows_of walker.old) self.now.tags.now (T.stopped t.old)) (T.stopped t.old) self.now.request.now) }
-        ensures first { IfOk result (λ r. r.first ≡ first_of (texts_at (rows_of walker.old) self.now.tags.now (T.stopped t.old)) (T.stopped t.old).pid self.now.request.now) }
+        requires agrees { AgreesAt AgreesWith walker.old (T.stopped t.old) }
+        ensures edit { IfOk result (λ r. r.edit ≡ rewritten (texts_at (rows_of walker.old.table) self.now.tags.now (T.stopped t.old)) (T.stopped t.old) self.now.request.now) }
+        ensures first { IfOk result (λ r. r.first ≡ first_of (texts_at (rows_of walker.old.table) self.now.tags.now (T.stopped t.old)) (T.stopped t.old).pid self.now.request.now) }
         ensures room { IfOk result (λ r. IsTrue (is_swap r.edit) → 65536 ≤ stack_at (T.stopped t.old)) }
-        ensures walker { walker.new ≡ walker.old }
+        ensures walker { WalksAt (T.stopped t.old) walker.old walker.new }
         ensures process { OnlyPeeks T.stopped T.around t.old t.new }
     {
         // For the proof alone: the process lives.
@@ -126,10 +132,11 @@ impl<'a> Planner<'a> {
         t: &mut T,
         walker: &mut Walker,
     ) -> Result<Rewritten, NoMemory>
-        ensures edit { IfOk result (λ r. r.edit ≡ rewritten (texts_at (rows_of walker.old) self.now.tags.now (T.stopped t.old)) (T.stopped t.old) self.now.request.now) }
-        ensures first { IfOk result (λ r. r.first ≡ first_of (texts_at (rows_of walker.old) self.now.tags.now (T.stopped t.old)) (T.stopped t.old).pid self.now.request.now) }
+        requires agrees { AgreesAt AgreesWith walker.old (T.stopped t.old) }
+        ensures edit { IfOk result (λ r. r.edit ≡ rewritten (texts_at (rows_of walker.old.table) self.now.tags.now (T.stopped t.old)) (T.stopped t.old) self.now.request.now) }
+        ensures first { IfOk result (λ r. r.first ≡ first_of (texts_at (rows_of walker.old.table) self.now.tags.now (T.stopped t.old)) (T.stopped t.old).pid self.now.request.now) }
         ensures room { IfOk result (λ r. IsTrue (is_swap r.edit) → 65536 ≤ stack_at (T.stopped t.old)) }
-        ensures walker { walker.new ≡ walker.old }
+        ensures walker { WalksAt (T.stopped t.old) walker.old walker.new }
         ensures process { OnlyPeeks T.stopped T.around t.old t.new }
     {
         edits_keep_to_paths();
@@ -208,9 +215,10 @@ struct ExecvePlanner<'a> {
 impl<'a> ExecvePlanner<'a> {
     /// What becomes of execve(2): where its path can be swapped its lists are read, and its scripts are expanded.
     fn plan<T: Tracee>(&self, t: &mut T, walker: &mut Walker) -> Result<Plan, NoMemory>
+        requires agrees { AgreesAt AgreesWith walker.old (T.stopped t.old) }
         ensures plan { let planner = self.now.planner in
-            IfOk result (λ plan. (plan, T.stopped t.new) ≡ execve_plan (rows_of walker.old) planner.tags.now (T.stopped t.old) planner.request.now self.now.path.now self.now.lists) }
-        ensures walker { walker.new ≡ walker.old }
+            IfOk result (λ plan. (plan, T.stopped t.new) ≡ execve_plan (rows_of walker.old.table) planner.tags.now (T.stopped t.old) planner.request.now self.now.path.now self.now.lists) }
+        ensures walker { WalksAt (T.stopped t.old) walker.old walker.new }
         ensures edits { OnlyEdits T.stopped T.around t.old t.new }
     {
         // For the proof alone: the process lives.
@@ -237,9 +245,10 @@ impl<'a> ExecvePlanner<'a> {
     ) -> Result<Plan, NoMemory>
         requires room { 65536 ≤ stack_at (T.stopped t.old) }
         requires few { length handed.args ≤ 4096 }
+        requires agrees { AgreesAt AgreesWith walker.old (T.stopped t.old) }
         ensures plan { let tags = self.now.planner.tags.now in
-            IfOk result (λ plan. (plan, T.stopped t.new) ≡ expand_with (rows_of walker.old) tags edit self.now.path.now self.now.lists.args handed (T.stopped t.old)) }
-        ensures walker { walker.new ≡ walker.old }
+            IfOk result (λ plan. (plan, T.stopped t.new) ≡ expand_with (rows_of walker.old.table) tags edit self.now.path.now self.now.lists.args handed (T.stopped t.old)) }
+        ensures walker { WalksAt (T.stopped t.old) walker.old walker.new }
         ensures edits { OnlyEdits T.stopped T.around t.old t.new }
     {
         // For the proof alone: the process lives.
@@ -263,9 +272,10 @@ impl<'a> ExecvePlanner<'a> {
         walker: &mut Walker,
         handed: Handed,
     ) -> Result<Expanded, WalkErr>
-        ensures answer { let texts = texts_at (rows_of walker.old) self.now.planner.tags.now (T.stopped t.old) in
+        requires agrees { AgreesAt AgreesWith walker.old (T.stopped t.old) }
+        ensures answer { let texts = texts_at (rows_of walker.old.table) self.now.planner.tags.now (T.stopped t.old) in
             IsAnswer (expanded_at texts (T.stopped t.old).pid handed.env_bytes self.now.path.now handed.args) result }
-        ensures walker { walker.new ≡ walker.old }
+        ensures walker { WalksAt (T.stopped t.old) walker.old walker.new }
         ensures process { OnlyPeeks T.stopped T.around t.old t.new }
     {
         let pid = t.pid();

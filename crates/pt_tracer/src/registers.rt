@@ -10,7 +10,8 @@ pub(crate) const A0: u8 = 10;
 
 const A1: u8 = 11;
 
-const A2: u8 = 12;
+/// a2, which has the third one.
+pub(crate) const A2: u8 = 12;
 
 const A3: u8 = 13;
 
@@ -19,7 +20,7 @@ const A4: u8 = 14;
 const A5: u8 = 15;
 
 /// a7, which has the number of a call.
-const A7: u8 = 17;
+pub(crate) const A7: u8 = 17;
 
 /// What a caller passes beside its first argument, by the names of the registers.
 #[derive(Clone, Copy)]

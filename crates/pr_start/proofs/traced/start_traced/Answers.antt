@@ -1,16 +1,30 @@
-use Rattle.std.proofs.Common.{lit<, ap, ◌∙◌}
+use Rattle.std.proofs.Common.{lit<, ap, subst, sym, ◌∙◌}
 use Rattle.kr_start.proofs.law_allowed.SourceLemmas.{settled-are-named}
 use Rattle.kr_mounts.specs.Stored.{table_of}
 use Rattle.kr_view.specs.View.{plain}
 use Rattle.kr_view.proofs.TableLemmas.{plain_stands}
 use Rattle.pt_bind.specs.Binding.{rows_of}
+use Rattle.pt_canon.specs.Remembering.{Walking}
+use Rattle.pt_tracer.specs.Agreeing.{AgreesWith}
+use Rattle.pt_tracer.proofs.AgreeLemmas.{empty-agrees}
+use Rattle.pt_tracer.specs.Keeping.{Keeping}
 use Rattle.pr_start.proofs.FirstLemmas.{can-start}
 use Rattle.pr_start.proofs.traced.start_traced.Goals as goal
+
+pub first_found-requires : goal.first_found-requires
+first_found-requires c = record { unpaused = ap (λ (w : Walking). w.pauses) c.in-Ok.ensures }
+
+pub new-tracer-requires : goal.new-tracer-requires
+new-tracer-requires c = record { unpaused = ap (λ (w : Walking). w.pauses) c.first_found.ensures.walker }
 
 pub start-requires : goal.start-requires
 start-requires c =
     let tree = c.args.stage.tree in
+    let user = c.args.stage.user in
     let ready = c.requires.ready.prepared in
     let stands = plain_stands tree ready.settled.sound in
-    let first = can-start c.firsts_can_start.ensures (table_of c.args.stage.places) tree c.args.stage.user (rows_of c.in-Ok.walker) c.new-tags.result c.first.new.tags c.args.launch c.in-Ok-first.first ready.settled (ap rows_of c.in-Ok.ensures ∙ c.requires.texts) c.in-Ok-first.ensures.begins in
-    (lit< tt, (lit< tt, (stands.0, (lit< tt, (ready.free, (ready.lasts, (settled-are-named tree plain stands.1, (first.0, (first.1, tt)))))))))
+    let bindings = ap (λ (w : Walking). rows_of w.table) c.in-Ok.ensures ∙ c.requires.texts in
+    let first = can-start c.firsts_can_start.ensures (table_of c.args.stage.places) tree user (rows_of c.in-Ok.walker.table) c.new-tags.result c.first_found.new.tags c.args.launch c.in-Ok-first.first ready.settled bindings c.in-Ok-first.ensures.begins in
+    let empty = ap (λ (w : Walking). w.remembered) c.first_found.ensures.walker in
+    let agrees = subst (λ (x : Keeping). AgreesWith x.pausing.walker tree user) (sym c.new-tracer.ensures) (empty-agrees c.first_found.new.walker tree user empty) in
+    (lit< tt, (lit< tt, (stands.0, (lit< tt, (ready.free, (ready.lasts, (settled-are-named tree plain stands.1, (first.0, (first.1, agrees)))))))))

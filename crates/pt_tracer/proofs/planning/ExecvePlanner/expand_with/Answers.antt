@@ -10,7 +10,7 @@ returns-in-Ok-2-clause-plan g c =
     let t = g.T.Tracee.stopped c.args.t.now in
     let program = c.in-Ok.program in
     let kept : c.saturating_sub-kept.result ≡ length c.args.handed.args - 1 = c.saturating_sub-kept.ensures ∙ ap (λ n. n - 1) c.len.ensures in
-    let steps = script-expanded (rows_of c.args.walker.now) execve.planner.tags.now c.args.edit execve.lists.args (length c.args.handed.args - 1) t program _ c.in-Ok.ensures.answer c.if-expanded-eq0.false in
+    let steps = script-expanded (rows_of c.args.walker.now.table) execve.planner.tags.now c.args.edit execve.lists.args (length c.args.handed.args - 1) t program _ c.in-Ok.ensures.answer c.if-expanded-eq0.false in
     if_ok c.plan_script.result (λ plan e. e ∙ (λ k. script_plan (c.in-Ok.ensures.process.same k) execve.lists.args (kept k) program) ∙ sym steps) c.plan_script.ensures.plan
 
 pub returns-in-Ok-2-clause-edits : goal.returns-in-Ok-2-clause-edits

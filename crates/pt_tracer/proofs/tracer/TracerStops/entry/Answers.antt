@@ -1,14 +1,24 @@
-use Rattle.pt_faker.proofs.StopLemmas.{edited-then, request-edits}
+use Rattle.std.proofs.Common.{◌∙◌, ap}
+use Rattle.pt_faker.proofs.StopLemmas.{on_ok}
+use Rattle.pt_tracer.specs.Watched.{Tracing, entered}
+use Rattle.pt_tracer.proofs.AgreeLemmas.{edited-agrees}
+use Rattle.pt_tracer.proofs.PauseLemmas.{kept-paused}
 use Rattle.pt_tracer.proofs.tracer.TracerStops.entry.Goals as goal
 
-pub returns-in-Ok-clause-edits : goal.returns-in-Ok-clause-edits
-returns-in-Ok-clause-edits g c =
+pub enter-requires : goal.enter-requires
+enter-requires g c = record { agrees = c.resume_for.ensures.agrees _ _ c.requires.agrees }
+
+pub pause_at-requires : goal.pause_at-requires
+pause_at-requires g c =
+    record { agrees = edited-agrees c.enter.new.self.pausing.walker (g.T.Tracee.stopped c.args.t.now) (g.T.Tracee.stopped c.enter.new.t) c.enter.ensures.edits.edits c.in_ok-enter.ensures.walks.agrees }
+
+pub returns-clause-enters : goal.returns-clause-enters
+returns-clause-enters g c =
     let t = g.T.Tracee.stopped c.args.t.now in
-    let u = g.T.Tracee.stopped c.request.new.self in
-    edited-then t u _ (request-edits t c.pid-pid.ensures.lives u c.in-Ok.ensures.after) c.take_up.ensures.edits.edits
+    let u = g.T.Tracee.stopped c.enter.new.t in
+    on_ok c.pause_at.result (λ same. ap (λ (x : Tracing). (x, u)) same ∙ c.in_ok-enter.ensures.enters ∙ ap (λ (x : Tracing). entered x t) c.resume_for.ensures.tracing) c.pause_at.ensures.tracing
 
-pub returns-in-Err-Err-clause-edits : goal.returns-in-Err-Err-clause-edits
-returns-in-Err-Err-clause-edits g c = request-edits (g.T.Tracee.stopped c.args.t.now) c.pid-pid.ensures.lives (g.T.Tracee.stopped c.request.new.self) c.in-Err-Err.ensures.after
-
-pub returns-in-Err-NoMemory-clause-edits : goal.returns-in-Err-NoMemory-clause-edits
-returns-in-Err-NoMemory-clause-edits g c = request-edits (g.T.Tracee.stopped c.args.t.now) c.pid-pid.ensures.lives (g.T.Tracee.stopped c.request.new.self) c.in-Err-NoMemory.ensures.after
+pub returns-clause-others : goal.returns-clause-others
+returns-clause-others g c =
+    let walked = kept-paused c.resume_for.new.self.pausing c.enter.new.self.pausing c.in_ok-enter.ensures.pids c.in_ok-enter.ensures.walks.pauses in
+    on_ok c.pause_at.result (λ keeps. record { keeps = λ q other free. keeps q (walked q (c.resume_for.ensures.others.keeps q (λ e. other (e ∙ c.pid-pid.ensures.pid)) free)) }) c.pause_at.ensures.others
