@@ -24,7 +24,7 @@ use Rattle.law_steady.proofs.AlongLemmas.{both_true, counted, not_true, only_fir
 use Rattle.law_steady.proofs.BytesLemmas.{StillHas, bytes_are_told, still, still_after, still_has_bytes, still_on}
 
 -- no more is told than of the kind of a change
-less_of_bytes : (t : Tree) (c : Change) → alters_bytes c ≡ false → alters_bytes_of t c ≡ false
+pub less_of_bytes : (t : Tree) (c : Change) → alters_bytes c ≡ false → alters_bytes_of t c ≡ false
 less_of_bytes t (SetSize i size) none = absurd cc
 less_of_bytes t (WriteFile i at bytes) none = absurd cc
 less_of_bytes t c none = refl
@@ -32,9 +32,9 @@ less_of_bytes t c none = refl
 -- ---- what stands beside a change of bytes
 
 -- every inode is there in both trees or in neither, with the same bytes
-record SameBytes (t u : Tree) : Type 0 where
-  there : (i : ℕ) (x : Inode) → inode t i ≡ Some x → (y : Inode) × (inode u i ≡ Some y) × (bytes_of y.node.body ≡ bytes_of x.node.body)
-  was : (i : ℕ) (y : Inode) → inode u i ≡ Some y → (x : Inode) × (inode t i ≡ Some x) × (bytes_of y.node.body ≡ bytes_of x.node.body)
+pub record SameBytes (t u : Tree) : Type 0 where
+  pub there : (i : ℕ) (x : Inode) → inode t i ≡ Some x → (y : Inode) × (inode u i ≡ Some y) × (bytes_of y.node.body ≡ bytes_of x.node.body)
+  pub was : (i : ℕ) (y : Inode) → inode u i ≡ Some y → (x : Inode) × (inode t i ≡ Some x) × (bytes_of y.node.body ≡ bytes_of x.node.body)
 
 same : (t : Tree) → SameBytes t t
 same t = record { there = λ i x is. (x, is, refl); was = λ i y is. (y, is, refl) }
@@ -69,7 +69,7 @@ module _ {M : Type 0} (mounts : Mounts M) (pid : ℕ) where
   by_option s None g each = same s.tree
   by_option s (Some x) g each = each x
 
-  beside_leaves : (c : Change) (s : State M Image) → is_beside c ≡ true → SameBytes s.tree (applied images mounts pid c s).tree
+  pub beside_leaves : (c : Change) (s : State M Image) → is_beside c ≡ true → SameBytes s.tree (applied images mounts pid c s).tree
   beside_leaves (OpenFile fd cloexec from o) s is = by_option s (mount_of mounts pid s from) (λ m. open_in pid fd cloexec o m s) (λ m. same_held_at o.place s.tree)
   beside_leaves (Seek fd at) s is = by_option s (named pid fd s) _ (λ x. same s.tree)
   beside_leaves c s is = absurd cc
@@ -88,7 +88,7 @@ module _ {M : Type 0} (number : M → ℕ) (table : List Row) (mounts : Mounts M
   alter s cs = passes_along alters_bytes_of mounts pid s cs
 
   -- what isn't told to alter bytes leaves them, whatever else it does
-  still_along : (cs : List Change) (s : State M Image) → alter s cs ≡ false → StillHas s.tree (after cs s).tree
+  pub still_along : (cs : List Change) (s : State M Image) → alter s cs ≡ false → StillHas s.tree (after cs s).tree
   still_along [] s none = still s.tree
   still_along (c ∷ cs) s none =
       let next = applied images mounts pid c s in

@@ -19,23 +19,23 @@ use Rattle.law_lawful.specs.kr_model.FileRows.{creates, openat_row, truncates}
 use Rattle.law_lawful.specs.kr_model.Judged.{alters_bytes, alters_shape, leaves_bytes, leaves_shape}
 use Rattle.law_lawful.specs.kr_model.Known.{Known}
 use Rattle.law_lawful.specs.kr_model.Operation.{by_path, links_told, looked_up, made, moves_told, opened, operation, taken}
-use Rattle.law_lawful.specs.kr_model.Reply.{Replying}
+use Rattle.law_lawful.specs.kr_model.Reply.{Reply, Replying, refusal}
 use Rattle.law_lawful.specs.kr_model.Seen.{Links, Looked, LooksUp, Made, MakesEntry, Moves, Opening, NoPath, Opens, OpensFound, Seen, Taken, TakesEntry, WalkFails}
 use Rattle.law_lawful.specs.kr_model.State.{Image, State}
 use Rattle.law_lawful.specs.kr_model.Walks.{Targets, created_at, if_found, looked_at, opened_at, seen as seen_of_paths, seen_of, targets_of}
 use Rattle.law_lawful.proofs.kr_model.LineLemmas.{by_line, line_passes}
 use Rattle.law_steady.specs.Calls.{CallsAlterOnce, CallsLeaveBytes, CallsLeaveShape, ProgramsLeaveBoth, alter_one_file, are_few, bytes_kinds, is_beside, is_once, may_alter_bytes, may_alter_shape, replied, shape_kinds}
-use Rattle.law_steady.proofs.EndLemmas.{Ends, ends_pass, refused}
+use Rattle.law_steady.proofs.EndLemmas.{Ends, Pass, ends_pass, refused}
 use Rattle.law_steady.proofs.OnceRows.{Once, fchmod_once, fchmodat_once, fchown_once, fchownat_here_once, fchownat_once, ftruncate_once, linkat_once, mkdirat_once, renameat2_once, symlinkat_once, unlinkat_once, write_once, writev_once}
 use Rattle.law_steady.proofs.OpeningRows.{found_opened, openat_ends}
 
 -- ---- tests of kinds
 
 -- kinds that can't alter the shape, and those that can't alter bytes
-abbrev keeps_shape : Kind → Bool
+abbrev pub keeps_shape : Kind → Bool
 keeps_shape k = not (has_kind shape_kinds k)
 
-abbrev keeps_bytes : Kind → Bool
+abbrev pub keeps_bytes : Kind → Bool
 keeps_bytes k = not (has_kind bytes_kinds k)
 
 -- a line without such a kind passes; the end of its caller is of neither kind
@@ -72,46 +72,46 @@ bytes_kept (WriteFile i at bytes) keeps = absurd cc
 bytes_kept _ keeps = refl
 
 module _ (pid : ℕ) (r : Request) (seen : Seen) (k : Known) (m : Memory) where
-  shape_by_line : line_passes keeps_shape r ≡ true → leaves_shape (replied pid r seen k m) ≡ true
+  pub shape_by_line : line_passes keeps_shape r ≡ true → leaves_shape (replied pid r seen k m) ≡ true
   shape_by_line all = by_line keeps_shape (λ c. not (alters_shape c)) shape_kept pid r seen k m all
 
-  bytes_by_line : line_passes keeps_bytes r ≡ true → leaves_bytes (replied pid r seen k m) ≡ true
+  pub bytes_by_line : line_passes keeps_bytes r ≡ true → leaves_bytes (replied pid r seen k m) ≡ true
   bytes_by_line all = by_line keeps_bytes (λ c. not (alters_bytes c)) bytes_kept pid r seen k m all
 
 -- ---- what a row comes to of what its call is told
 
-module _ {test : List Change → Bool} (none : test [] ≡ true) where
-  opened_ends : (seen : Seen) {next : Opening → Replying} → ((o : Opening) → Ends test (next o)) → Ends test (opened seen next)
+module _ {P : Reply → Type 0} (refuses : (e : Errno) → P (refusal e)) where
+  pub opened_ends : (seen : Seen) {next : Opening → Replying} → ((o : Opening) → Ends P (next o)) → Ends P (opened seen next)
   opened_ends (Opens o) each = each o
-  opened_ends (WalkFails e) each = refused e none
-  opened_ends _ each = refused ENOENT none
+  opened_ends (WalkFails e) each = refused e (refuses e)
+  opened_ends _ each = refused ENOENT (refuses ENOENT)
 
-  made_ends : (seen : Seen) {next : Made → Replying} → ((m : Made) → Ends test (next m)) → Ends test (made seen next)
+  pub made_ends : (seen : Seen) {next : Made → Replying} → ((m : Made) → Ends P (next m)) → Ends P (made seen next)
   made_ends (MakesEntry m) each = each m
-  made_ends (WalkFails e) each = refused e none
-  made_ends _ each = refused ENOENT none
+  made_ends (WalkFails e) each = refused e (refuses e)
+  made_ends _ each = refused ENOENT (refuses ENOENT)
 
-  taken_ends : (seen : Seen) {next : Taken → Replying} → ((t : Taken) → Ends test (next t)) → Ends test (taken seen next)
+  pub taken_ends : (seen : Seen) {next : Taken → Replying} → ((t : Taken) → Ends P (next t)) → Ends P (taken seen next)
   taken_ends (TakesEntry t) each = each t
-  taken_ends (WalkFails e) each = refused e none
-  taken_ends _ each = refused ENOENT none
+  taken_ends (WalkFails e) each = refused e (refuses e)
+  taken_ends _ each = refused ENOENT (refuses ENOENT)
 
-  looked_ends : (seen : Seen) {next : Looked → Replying} → ((l : Looked) → Ends test (next l)) → Ends test (looked_up seen next)
+  pub looked_ends : (seen : Seen) {next : Looked → Replying} → ((l : Looked) → Ends P (next l)) → Ends P (looked_up seen next)
   looked_ends (LooksUp l) each = each l
-  looked_ends (WalkFails e) each = refused e none
-  looked_ends _ each = refused ENOENT none
+  looked_ends (WalkFails e) each = refused e (refuses e)
+  looked_ends _ each = refused ENOENT (refuses ENOENT)
 
-  links_end : (seen : Seen) {next : Looked → Made → Bool → Replying} → ((old : Looked) (new : Made) (same_mount : Bool) → Ends test (next old new same_mount)) → Ends test (links_told seen next)
+  pub links_end : (seen : Seen) {next : Looked → Made → Bool → Replying} → ((old : Looked) (new : Made) (same_mount : Bool) → Ends P (next old new same_mount)) → Ends P (links_told seen next)
   links_end (Links old new same_mount) each = each old new same_mount
-  links_end (WalkFails e) each = refused e none
-  links_end _ each = refused ENOENT none
+  links_end (WalkFails e) each = refused e (refuses e)
+  links_end _ each = refused ENOENT (refuses ENOENT)
 
-  moves_end : (seen : Seen) {next : Taken → Taken → Bool → Replying} → ((old new : Taken) (same_mount : Bool) → Ends test (next old new same_mount)) → Ends test (moves_told seen next)
+  pub moves_end : (seen : Seen) {next : Taken → Taken → Bool → Replying} → ((old new : Taken) (same_mount : Bool) → Ends P (next old new same_mount)) → Ends P (moves_told seen next)
   moves_end (Moves old new same_mount) each = each old new same_mount
-  moves_end (WalkFails e) each = refused e none
-  moves_end _ each = refused ENOENT none
+  moves_end (WalkFails e) each = refused e (refuses e)
+  moves_end _ each = refused ENOENT (refuses ENOENT)
 
-  path_ends : (path : List ℕ) {here next : Replying} → Ends test here → Ends test next → Ends test (by_path path here next)
+  pub path_ends : (path : List ℕ) {here next : Replying} → Ends P here → Ends P next → Ends P (by_path path here next)
   path_ends [] here next = here
   path_ends (b ∷ path) here next = next
 
@@ -135,22 +135,22 @@ module _ (table : List Row) (pid : ℕ) (s : State ℕ Image) (k : Known) (dirfd
   abbrev row : Opening → Replying
   row o = openat_row k o flags permissions
 
-  found_leaves : (l : Looked) → Ends leaves_shape (row (OpensFound l))
-  found_leaves l = found_opened refl flags (λ fd cloexec o. refl) (cut_leaves_shape (truncates flags)) k l
+  found_leaves : (l : Looked) → Pass leaves_shape (row (OpensFound l))
+  found_leaves l = found_opened leaves_shape refl flags (λ fd cloexec o. refl) (cut_leaves_shape (truncates flags)) k l
 
-  by_found : (target : PlaceTarget) (p : Option (Place ℕ)) → Ends leaves_shape (opened (option_map_or (λ p. Opens (OpensFound (looked_at table pid s target p))) p (WalkFails ENOENT)) row)
+  by_found : (target : PlaceTarget) (p : Option (Place ℕ)) → Pass leaves_shape (opened (option_map_or (λ p. Opens (OpensFound (looked_at table pid s target p))) p (WalkFails ENOENT)) row)
   by_found target None = refused ENOENT refl
   by_found target (Some p) = found_leaves (looked_at table pid s target p)
 
-  by_flag : (b : Bool) → b ≡ false → (target : PlaceTarget) → Ends leaves_shape (opened (cond b (Opens (created_at table pid s target)) (if_found table pid s target (λ l. Opens (OpensFound l)))) row)
+  by_flag : (b : Bool) → b ≡ false → (target : PlaceTarget) → Pass leaves_shape (opened (cond b (Opens (created_at table pid s target)) (if_found table pid s target (λ l. Opens (OpensFound l)))) row)
   by_flag true is target = absurd cc
   by_flag false is target = by_found target target.found
 
-  by_target : (o : Option PlaceTarget) → Ends leaves_shape (opened (option_map_or (opened_at table pid s flags) o NoPath) row)
+  by_target : (o : Option PlaceTarget) → Pass leaves_shape (opened (option_map_or (opened_at table pid s flags) o NoPath) row)
   by_target None = refused ENOENT refl
   by_target (Some target) = by_flag (creates flags) plain target
 
-  plainly_opened : (x : Result Targets Errno) → Ends leaves_shape (opened (seen_of table pid s (call.Openat dirfd path flags permissions) x) row)
+  plainly_opened : (x : Result Targets Errno) → Pass leaves_shape (opened (seen_of table pid s (call.Openat dirfd path flags permissions) x) row)
   plainly_opened (Ok targets) = by_target targets.first
   plainly_opened (Err e) = refused e refl
 
@@ -160,7 +160,7 @@ module _ (table : List Row) (pid : ℕ) (s : State ℕ Image) (k : Known) (m : M
   leave_shape : (r : Request) → may_alter_shape r ≡ false → leaves_shape (replied pid r (seen_of_paths table pid s r) k m) ≡ true
   leave_shape (call.Openat dirfd path flags permissions) plain =
       let r = call.Openat dirfd path flags permissions in
-      ends_pass (operation pid r (seen_of_paths table pid s r) k) (plainly_opened table pid s k dirfd path flags permissions plain (targets_of table pid s r)) m
+      ends_pass leaves_shape (operation pid r (seen_of_paths table pid s r) k) (plainly_opened table pid s k dirfd path flags permissions plain (targets_of table pid s r)) m
   leave_shape r plain = shape_by_line pid r (seen_of_paths table pid s r) k m (line_without (has_kind shape_kinds) refl r plain)
 
 pub calls_leave_shape : CallsLeaveShape
@@ -185,13 +185,13 @@ leaving_is_few cs none = both (none_is_once alters_bytes cs none) (ap (λ b. b |
 module _ (pid : ℕ) (seen : Seen) (k : Known) (m : Memory) where
   leave_bytes : (r : Request) → may_alter_bytes r ≡ false → leaves_bytes (replied pid r seen k m) ≡ true
   leave_bytes (call.Openat dirfd path flags permissions) plain =
-      ends_pass {test = leaves_bytes} (operation pid (call.Openat dirfd path flags permissions) seen k)
-      (opened_ends refl seen
-      (λ o. openat_ends refl flags (λ fd cloexec o. refl) (uncut (truncates flags) plain) permissions (λ d name mode uid gid fd cloexec o. refl) k o)) m
+      ends_pass leaves_bytes (operation pid (call.Openat dirfd path flags permissions) seen k)
+      (opened_ends (λ e. refl) seen
+      (λ o. openat_ends leaves_bytes refl flags (λ fd cloexec o. refl) (uncut (truncates flags) plain) permissions (λ d name mode uid gid fd cloexec o. refl) k o)) m
   leave_bytes r plain = bytes_by_line pid r seen k m (line_without (has_kind bytes_kinds) refl r plain)
 
   by_row : (r : Request) → Once (operation pid r seen k) → are_few (replied pid r seen k m) ≡ true
-  by_row r once = ends_pass (operation pid r seen k) once m
+  by_row r once = ends_pass are_few (operation pid r seen k) once m
 
   by_both_lines : (r : Request) → line_passes keeps_shape r ≡ true → line_passes keeps_bytes r ≡ true → are_few (replied pid r seen k m) ≡ true
   by_both_lines r shape bytes =
@@ -204,18 +204,18 @@ module _ (pid : ℕ) (seen : Seen) (k : Known) (m : Memory) where
   alter_once (call.Ftruncate fd len) = by_row (call.Ftruncate fd len) (ftruncate_once k fd len)
   alter_once (call.Openat dirfd path flags permissions) =
       by_row (call.Openat dirfd path flags permissions)
-      (opened_ends refl seen
-      (λ o. openat_ends refl flags (λ fd cloexec o. refl) (cut_is_one (truncates flags)) permissions (λ d name mode uid gid fd cloexec o. refl) k o))
-  alter_once (call.Mkdirat dirfd path permissions) = by_row (call.Mkdirat dirfd path permissions) (made_ends refl seen (λ m. mkdirat_once k m permissions))
-  alter_once (call.Unlinkat dirfd path flags) = by_row (call.Unlinkat dirfd path flags) (taken_ends refl seen (λ t. unlinkat_once k t flags))
-  alter_once (call.Symlinkat text dirfd path) = by_row (call.Symlinkat text dirfd path) (made_ends refl seen (λ m. symlinkat_once k m text))
-  alter_once (call.Linkat olddir old newdir new flags) = by_row (call.Linkat olddir old newdir new flags) (links_end refl seen (linkat_once k))
-  alter_once (call.Renameat2 olddir old newdir new) = by_row (call.Renameat2 olddir old newdir new) (moves_end refl seen (renameat2_once k))
+      (opened_ends (λ e. refl) seen
+      (λ o. openat_ends are_few refl flags (λ fd cloexec o. refl) (cut_is_one (truncates flags)) permissions (λ d name mode uid gid fd cloexec o. refl) k o))
+  alter_once (call.Mkdirat dirfd path permissions) = by_row (call.Mkdirat dirfd path permissions) (made_ends (λ e. refl) seen (λ m. mkdirat_once k m permissions))
+  alter_once (call.Unlinkat dirfd path flags) = by_row (call.Unlinkat dirfd path flags) (taken_ends (λ e. refl) seen (λ t. unlinkat_once k t flags))
+  alter_once (call.Symlinkat text dirfd path) = by_row (call.Symlinkat text dirfd path) (made_ends (λ e. refl) seen (λ m. symlinkat_once k m text))
+  alter_once (call.Linkat olddir old newdir new flags) = by_row (call.Linkat olddir old newdir new flags) (links_end (λ e. refl) seen (linkat_once k))
+  alter_once (call.Renameat2 olddir old newdir new) = by_row (call.Renameat2 olddir old newdir new) (moves_end (λ e. refl) seen (renameat2_once k))
   alter_once (call.Fchmod fd permissions) = by_row (call.Fchmod fd permissions) (fchmod_once k fd permissions)
-  alter_once (call.Fchmodat dirfd path permissions) = by_row (call.Fchmodat dirfd path permissions) (looked_ends refl seen (λ l. fchmodat_once k l permissions))
+  alter_once (call.Fchmodat dirfd path permissions) = by_row (call.Fchmodat dirfd path permissions) (looked_ends (λ e. refl) seen (λ l. fchmodat_once k l permissions))
   alter_once (call.Fchown fd uid gid) = by_row (call.Fchown fd uid gid) (fchown_once k fd uid gid)
   alter_once (call.Fchownat dirfd path uid gid flags) =
-      by_row (call.Fchownat dirfd path uid gid flags) (path_ends refl path (fchownat_here_once k dirfd uid gid) (looked_ends refl seen (λ l. fchownat_once k l uid gid)))
+      by_row (call.Fchownat dirfd path uid gid flags) (path_ends (λ e. refl) path (fchownat_here_once k dirfd uid gid) (looked_ends (λ e. refl) seen (λ l. fchownat_once k l uid gid)))
   alter_once r = by_both_lines r refl refl
 
 pub calls_leave_bytes : CallsLeaveBytes

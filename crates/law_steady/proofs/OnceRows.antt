@@ -23,25 +23,25 @@ use Rattle.law_lawful.specs.kr_model.Pieces.{Piece, one_piece}
 use Rattle.law_lawful.specs.kr_model.Reply.{Replying, done, refuse}
 use Rattle.law_lawful.specs.kr_model.Seen.{Entered, Looked, Made, Makes, MakesNoName, MakesOver, Taken, Takes, TakesCovered, TakesNoName}
 use Rattle.law_steady.specs.Calls.{are_few}
-use Rattle.law_steady.proofs.EndLemmas.{Ends, all_read, answered, by_open, either, ending, listed, maybe, refused, usable, waiting, written_to}
+use Rattle.law_steady.proofs.EndLemmas.{Pass, all_read, answered, by_open, either, ending, listed, maybe, refused, usable, waiting, written_to}
 
 abbrev pub Once : Replying → Type 0
-Once action = Ends are_few action
+Once action = Pass are_few action
 
 -- ---- new names
 
 pub mkdirat_once : (k : Known) (m : Made) (mode : ℕ) → Once (mkdirat_row k m mode)
 mkdirat_once k (MakesNoName last) mode = refused EEXIST refl
 mkdirat_once k MakesOver mode = refused EEXIST refl
-mkdirat_once k (Makes dir name slash) mode = written_to refl k dir (λ d n. either _ (refused ENOSPC refl) (answered refl))
+mkdirat_once k (Makes dir name slash) mode = written_to (λ e. refl) k dir (λ d n. either _ (refused ENOSPC refl) (answered refl))
 
 pub symlinkat_once : (k : Known) (m : Made) (text : List ℕ) → Once (symlinkat_row k m text)
 symlinkat_once k (MakesNoName last) text = refused EEXIST refl
 symlinkat_once k MakesOver text = refused EEXIST refl
-symlinkat_once k (Makes dir name slash) text = either slash (refused ENOENT refl) (written_to refl k dir (λ d n. either _ (refused ENOSPC refl) (answered refl)))
+symlinkat_once k (Makes dir name slash) text = either slash (refused ENOENT refl) (written_to (λ e. refl) k dir (λ d n. either _ (refused ENOSPC refl) (answered refl)))
 
 host_linked : (k : Known) (old dir : Host) (name : List ℕ) → Once (link_host k old dir name)
-host_linked k (host.Node i) dir name = either _ (refused EPERM refl) (written_to refl k dir (λ d n. either _ (refused ENOSPC refl) (answered refl)))
+host_linked k (host.Node i) dir name = either _ (refused EPERM refl) (written_to (λ e. refl) k dir (λ d n. either _ (refused ENOSPC refl) (answered refl)))
 host_linked k (host.Proc i at) dir name = refused EPERM refl
 
 pub linkat_once : (k : Known) (old : Looked) (m : Made) (same_mount : Bool) → Once (linkat_row k old m same_mount)
@@ -58,8 +58,8 @@ directory_removed : (k : Known) (name : List ℕ) (d : ℕ) (n : Node) → Once 
 directory_removed k name d n = either _ (refused ENOTDIR refl) (either _ (refused ENOTEMPTY refl) (answered refl))
 
 entry_taken : (k : Known) (e : Entered) (found : Host) {next : ℕ → Node → Replying} → ((d : ℕ) (n : Node) → Once (next d n)) → Once (take_entry k e found next)
-entry_taken k e (host.Node i) keeps = written_to refl k e.dir (λ d n. maybe (known_node k i) (λ x. either _ (refused EPERM refl) (keeps d x)) (refused ENOENT refl))
-entry_taken k e (host.Proc i at) keeps = written_to refl k e.dir (λ d n. refused EACCES refl)
+entry_taken k e (host.Node i) keeps = written_to (λ e. refl) k e.dir (λ d n. maybe (known_node k i) (λ x. either _ (refused EPERM refl) (keeps d x)) (refused ENOENT refl))
+entry_taken k e (host.Proc i at) keeps = written_to (λ e. refl) k e.dir (λ d n. refused EACCES refl)
 
 slashed : (b : Bool) → Once (refuse (cond b EISDIR ENOTDIR))
 slashed true = refused EISDIR refl
@@ -102,8 +102,8 @@ onto k old new d to dn tn n (Some (host.Proc j at)) = refused EACCES refl
 
 entry_moved : (k : Known) (old new : Entered) (found : Host) → Once (move_entry k old new found)
 entry_moved k old new (host.Node i) =
-    written_to refl k old.dir (λ d dn. written_to refl k new.dir (λ to tn. maybe (known_node k i) (λ n. onto k old new d to dn tn n new.found) (refused ENOENT refl)))
-entry_moved k old new (host.Proc i at) = written_to refl k old.dir (λ d dn. refused EACCES refl)
+    written_to (λ e. refl) k old.dir (λ d dn. written_to (λ e. refl) k new.dir (λ to tn. maybe (known_node k i) (λ n. onto k old new d to dn tn n new.found) (refused ENOENT refl)))
+entry_moved k old new (host.Proc i at) = written_to (λ e. refl) k old.dir (λ d dn. refused EACCES refl)
 
 apart_moved : (k : Known) (old new : Entered) (found : Host) → Once (if is_one found new.found then done 0 [] else move_entry k old new found)
 apart_moved k old new found = either (is_one found new.found) (answered refl) (entry_moved k old new found)
@@ -136,7 +136,7 @@ host_chmodded k mode (host.Node i) = maybe (known_node k i) (λ n. either _ (ref
 host_chmodded k mode (host.Proc i at) = refused EPERM refl
 
 pub fchmod_once : (k : Known) (fd : ℤ) (mode : ℕ) → Once (fchmod_row k fd mode)
-fchmod_once k fd mode = by_open refl k fd (λ n o. maybe o.place (λ p. host_chmodded k mode p.host) (refused EPERM refl))
+fchmod_once k fd mode = by_open (λ e. refl) k fd (λ n o. maybe o.place (λ p. host_chmodded k mode p.host) (refused EPERM refl))
 
 pub fchmodat_once : (k : Known) (l : Looked) (mode : ℕ) → Once (fchmodat_row k l mode)
 fchmodat_once k l mode = host_chmodded k mode l.host
@@ -149,7 +149,7 @@ host_chowned k uid gid (host.Node i) = maybe (known_node k i) (λ n. chowned _ _
 host_chowned k uid gid (host.Proc i at) = chowned _ _ uid gid _ refl
 
 pub fchown_once : (k : Known) (fd : ℤ) (uid gid : ℕ) → Once (fchown_row k fd uid gid)
-fchown_once k fd uid gid = by_open refl k fd (λ n o. maybe o.place (λ p. host_chowned k uid gid p.host) (chowned _ _ uid gid _ refl))
+fchown_once k fd uid gid = by_open (λ e. refl) k fd (λ n o. maybe o.place (λ p. host_chowned k uid gid p.host) (chowned _ _ uid gid _ refl))
 
 pub fchownat_once : (k : Known) (l : Looked) (uid gid : ℕ) → Once (fchownat_row k l uid gid)
 fchownat_once k l uid gid = host_chowned k uid gid l.host
@@ -161,34 +161,34 @@ fchownat_here_once k fd uid gid = either _ (host_chowned k uid gid k.caller.cwd)
 
 pipe_written : (k : Known) (pipe : ℕ) (pieces : List Piece) (o : Option (List ℕ)) → Once (write_pipe k pipe pieces o)
 pipe_written k pipe pieces None = answered refl
-pipe_written k pipe pieces (Some held) = either _ (ending refl) (either _ (waiting refl) (all_read refl _ (λ bytes. answered refl)))
+pipe_written k pipe pieces (Some held) = either _ (ending refl) (either _ (waiting refl) (all_read (λ e. refl) _ (λ bytes. answered refl)))
 
 put : (k : Known) (fd : ℕ) (o : Opened (Unit {0})) (at : ℕ) (bytes : List ℕ) → Once (put_in_file k fd o at bytes)
 put k fd o at bytes = either _ (refused ENOSPC refl) (answered refl)
 
 file_written : (k : Known) (fd : ℕ) (o : Opened (Unit {0})) (pieces : List Piece) (at : ℕ) → Once (write_file k fd o pieces at)
-file_written k fd o pieces at = either _ (refused EFBIG refl) (all_read refl _ (put k fd o at))
+file_written k fd o pieces at = either _ (refused EFBIG refl) (all_read (λ e. refl) _ (put k fd o at))
 
 what_written : (k : Known) (fd : ℕ) (o : Opened (Unit {0})) (pieces : List Piece) (what : What) → Once (write_what k fd o pieces what)
 what_written k fd o pieces File = file_written k fd o pieces _
 what_written k fd o pieces Dir = refused EISDIR refl
 what_written k fd o pieces In = refused EBADF refl
-what_written k fd o pieces Out = all_read refl pieces (λ bytes. answered refl)
-what_written k fd o pieces Err = all_read refl pieces (λ bytes. answered refl)
+what_written k fd o pieces Out = all_read (λ e. refl) pieces (λ bytes. answered refl)
+what_written k fd o pieces Err = all_read (λ e. refl) pieces (λ bytes. answered refl)
 what_written k fd o pieces (PipeRead p) = refused EBADF refl
 what_written k fd o pieces (PipeWrite p) = pipe_written k p pieces (k.pipe p)
 
 pieces_written : (k : Known) (fd : ℕ) (o : Opened (Unit {0})) (pieces : List Piece) → Once (write_pieces k fd o pieces)
-pieces_written k fd o pieces = either _ (answered refl) (usable refl _ pieces (what_written k fd o pieces o.what))
+pieces_written k fd o pieces = either _ (answered refl) (usable (λ e. refl) _ pieces (what_written k fd o pieces o.what))
 
 writable_open : (k : Known) (fd : ℤ) {next : ℕ → Opened (Unit {0}) → Replying} → ((n : ℕ) (o : Opened (Unit {0})) → Once (next n o)) → Once (if_writable k fd next)
-writable_open k fd keeps = by_open refl k fd (λ n o. either _ (refused EBADF refl) (either _ (refused EISDIR refl) (keeps n o)))
+writable_open k fd keeps = by_open (λ e. refl) k fd (λ n o. either _ (refused EBADF refl) (either _ (refused EISDIR refl) (keeps n o)))
 
 pub write_once : (k : Known) (fd : ℤ) (buf n : ℕ) → Once (write_row k fd buf n)
 write_once k fd buf n = writable_open k fd (λ number o. pieces_written k number o (one_piece buf n))
 
 pub writev_once : (k : Known) (fd : ℤ) (list count : ℕ) → Once (writev_row k fd list count)
-writev_once k fd list count = writable_open k fd (λ number o. listed refl list count (λ pieces. pieces_written k number o pieces))
+writev_once k fd list count = writable_open k fd (λ number o. listed (λ e. refl) list count (λ pieces. pieces_written k number o pieces))
 
 pub ftruncate_once : (k : Known) (fd : ℤ) (len : ℕ) → Once (ftruncate_row k fd len)
-ftruncate_once k fd len = by_open refl k fd (λ n o. either _ (refused EINVAL refl) (either _ (refused EFBIG refl) (either _ (refused ENOSPC refl) (answered refl))))
+ftruncate_once k fd len = by_open (λ e. refl) k fd (λ n o. either _ (refused EINVAL refl) (either _ (refused EFBIG refl) (either _ (refused ENOSPC refl) (answered refl))))

@@ -13,3 +13,4 @@ pub mod Calls
 pub mod Along
 pub mod Bytes
 pub mod Told
+pub mod Ahead

@@ -1,12 +1,14 @@
 -- Whether a call alters the shape of the tree and the bytes of files, exactly.
-use Rattle.std.specs.Prelude.{ℕ, List}
+use Rattle.std.specs.Prelude.{◌≡◌, ℕ, true, List}
 use Rattle.law_lawful.specs.rv_mem.Memory.{Memory}
 use Rattle.law_lawful.specs.kr_calls.declared.request.Request.{Request}
+use Rattle.law_lawful.specs.kr_tree.Lawful.{IsKept}
+use Rattle.law_lawful.specs.kr_tree.Tree.{Tree}
 use Rattle.law_lawful.specs.kr_tree.declared.place.Host.{Host}
 use Rattle.law_lawful.specs.kr_view.View.{Row}
-use Rattle.law_lawful.specs.kr_model.Applied.{Mounts}
-use Rattle.law_lawful.specs.kr_model.Change.{Change, MountOf}
-use Rattle.law_lawful.specs.kr_model.Judged.{HasShape}
+use Rattle.law_lawful.specs.kr_model.Applied.{Mounts, all_applied, applied, images}
+use Rattle.law_lawful.specs.kr_model.Change.{Change, End, MountOf}
+use Rattle.law_lawful.specs.kr_model.Judged.{HasShape, leaves_bytes, leaves_shape}
 use Rattle.law_lawful.specs.kr_model.Known.{Known}
 use Rattle.law_lawful.specs.kr_model.Lawful.{IsLawful}
 use Rattle.law_lawful.specs.kr_model.Operation.{IsNoExec}
@@ -34,3 +36,22 @@ abbrev pub ProgramsAreTold : Type 0 → Type 0
 ProgramsAreTold M =
     (number : M → ℕ) (table : List Row) (mounts : Mounts M) (pid : ℕ) (s : State M Image) (image : Image) (brk : ℕ) (from : MountOf) (host : Host) (dir : ℕ) (name : List ℕ)
     → IsLawful number table s → CanAllBeMade number table mounts pid s (replacing image brk from host dir name) → AreTold mounts pid s (replacing image brk from host dir name)
+
+-- ---- what leaves both
+
+abbrev pub LeavesBoth : Tree → Tree → Type 0
+LeavesBoth t u = HasShape t u × HasBytes t u
+
+-- a tree is left as it is
+abbrev pub SameTreesHaveBoth : Type 0
+SameTreesHaveBoth = (t : Tree) → LeavesBoth t t
+
+-- the end of a process leaves both
+abbrev pub EndsLeaveBoth : Type 0 → Type 0
+EndsLeaveBoth M = (mounts : Mounts M) (pid status : ℕ) (s : State M Image) → IsKept s.tree → LeavesBoth s.tree (applied images mounts pid (End status) s).tree
+
+-- so do changes none of which can alter either, one behind the other, whether they can be made or not
+abbrev pub QuietChangesLeaveBoth : Type 0 → Type 0
+QuietChangesLeaveBoth M =
+    (mounts : Mounts M) (pid : ℕ) (s : State M Image) (cs : List Change) → IsKept s.tree → leaves_shape cs ≡ true → leaves_bytes cs ≡ true
+    → LeavesBoth s.tree (all_applied images mounts pid cs s).tree

@@ -1,4 +1,5 @@
 //! Laws of steady walks, each carried by a function that does nothing.
+ghost use Rattle.law_steady.specs.Ahead.{CallsAreForetold};
 ghost use Rattle.law_steady.specs.Along.{ShapeIsToldAlong, ShapeStaysAlong};
 ghost use Rattle.law_steady.specs.Bytes.{BytesAreTold, BytesAreToldAlong};
 ghost use Rattle.law_steady.specs.Calls.{CallsAlterOnce, CallsLeaveBytes, CallsLeaveShape, ProgramsLeaveBoth};
@@ -7,7 +8,7 @@ ghost use Rattle.law_steady.specs.Fronts.{FrontsAreSteady};
 ghost use Rattle.law_steady.specs.NamesLast.{HostNamesLast};
 ghost use Rattle.law_steady.specs.Steady.{SteadyPeeksLast, SteadyWalksLast};
 ghost use Rattle.law_steady.specs.TextSteady.{SteadyKeysLast};
-ghost use Rattle.law_steady.specs.Told.{CallsAreTold, ProgramsAreTold};
+ghost use Rattle.law_steady.specs.Told.{CallsAreTold, EndsLeaveBoth, ProgramsAreTold, QuietChangesLeaveBoth, SameTreesHaveBoth};
 
 /// A steady host walk is the same in every state with that shape and that user, whoever asks.
 pub fn steady_walks_last<M, N, X, Y>()
@@ -99,4 +100,25 @@ pub fn calls_are_told<M>()
 /// And so of a new program in its caller's place.
 pub fn programs_are_told<M>()
     ensures { ProgramsAreTold M }
+{}
+
+/// Whether a call alters the shape of the tree, and the bytes of files, is told before it is carried out, but of a write its bytes: where it answers a
+/// number it alters what was told, and else neither.
+pub fn calls_are_foretold<M>()
+    ensures { CallsAreForetold M }
+{}
+
+/// A tree that is left as it is has its shape, and its files have their bytes.
+pub fn same_trees_have_both()
+    ensures { SameTreesHaveBoth }
+{}
+
+/// The end of a process leaves both.
+pub fn ends_leave_both<M>()
+    ensures { EndsLeaveBoth M }
+{}
+
+/// So do changes none of which can alter either.
+pub fn quiet_changes_leave_both<M>()
+    ensures { QuietChangesLeaveBoth M }
 {}

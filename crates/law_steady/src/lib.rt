@@ -32,6 +32,10 @@
 //! calls that do (`shape_is_told_along`, `bytes_are_told_along`; of calls `calls_are_told`, and `programs_are_told`). Changes none of which can alter
 //! the shape leave it, and the user, whatever else is known of the state (`shape_stays_along`).
 //!
+//! Both are told before a call is carried out, too, but for the bytes of a write: a call that answers a number alters what was told of it, and any other
+//! alters neither (`calls_are_foretold`). A tree that is left as it is has both still, and so it has behind the end of a process and behind changes
+//! none of which can alter either (`same_trees_have_both`, `ends_leave_both`, `quiet_changes_leave_both`).
+//!
 //! The reads of the first bytes for scripts, and names of descriptors, are no part of a key.
 #![tactic(auto)]
 
