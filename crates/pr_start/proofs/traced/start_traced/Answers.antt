@@ -24,7 +24,7 @@ start-requires c =
     let ready = c.requires.ready.prepared in
     let stands = plain_stands tree ready.settled.sound in
     let bindings = ap (λ (w : Walking). rows_of w.table) c.in-Ok.ensures ∙ c.requires.texts in
-    let first = can-start c.firsts_can_start.ensures (table_of c.args.stage.places) tree user (rows_of c.in-Ok.walker.table) c.new-tags.result c.first_found.new.tags c.args.launch c.in-Ok-first.first ready.settled bindings c.in-Ok-first.ensures.begins in
+    let first = can-start c.firsts_can_start.ensures (table_of c.args.stage.places) tree user (rows_of c.in-Ok.walker.table) c.new-tags.result c.first_found.new.tags c.args.launch c.in-Ok-first_found.first ready.settled bindings c.in-Ok-first_found.ensures.begins in
     let empty = ap (λ (w : Walking). w.remembered) c.first_found.ensures.walker in
     let agrees = subst (λ (x : Keeping). AgreesWith x.pausing.walker tree user) (sym c.new-tracer.ensures) (empty-agrees c.first_found.new.walker tree user empty) in
     (lit< tt, (lit< tt, (stands.0, (lit< tt, (ready.free, (ready.lasts, (settled-are-named tree plain stands.1, (first.0, (first.1, agrees)))))))))
