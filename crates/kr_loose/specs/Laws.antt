@@ -6,7 +6,7 @@ use Rattle.kr_turns.specs.Steps.{picked_process}
 use Rattle.kr_turns.specs.Turn.{IsWatchedCall, Machine, watched_call}
 use Rattle.kr_turns.specs.kr_stops.Watching.{IsGraph, Watcher, Watching}
 use Rattle.kr_loose.specs.CallSteps.{AreThreeSteps, three_steps}
-use Rattle.kr_loose.specs.LooseRun.{IsStepOf, Loose, step}
+use Rattle.kr_loose.specs.LooseRun.{IsStepOf, Loose, loose_part, step}
 
 -- the call of a turn is its three steps, made one after the other
 abbrev pub CallsAreThreeSteps : Type 0 → Type 0
@@ -17,9 +17,9 @@ pub record WatchedCallsAreThreeSteps {S : Type 0} (w : Watching S) : Type 0 wher
   pub parted : (marks : ℕ) (table : List Row) (pid : ℕ) (old new : Machine S) → IsWatchedCall w marks table pid old new → AreThreeSteps w marks table pid old new
   pub joined : (marks : ℕ) (table : List Row) (pid : ℕ) (old new : Machine S) → AreThreeSteps w marks table pid old new → IsWatchedCall w marks table pid old new
 
--- where the relations of a watcher are the graphs of functions, a step by the relations is the step by the functions; and where no
--- process is ready nothing changes
-pub record StepsAreFunctions {S : Type 0} (w : Watching S) : Type 0 where
-  pub steps : (f : Watcher S) (marks : ℕ) (table : List Row) (pick fuel : ℕ) (p : Process ℕ Image) (old new : Loose S) → IsGraph (λ x. x) w f
-      → picked_process old.machine.state pick ≡ Some p → IsStepOf w marks table pick fuel p old new → new ≡ step f marks table pick fuel old
-  pub rests : (f : Watcher S) (marks : ℕ) (table : List Row) (pick fuel : ℕ) (l : Loose S) → picked_process l.machine.state pick ≡ None → step f marks table pick fuel l ≡ l
+-- where the relations of a watcher are the graphs of functions on a part of what it keeps, a step by the relations is the step by the
+-- functions on that part; and where no process is ready nothing changes
+pub record StepsAreFunctions {S Q : Type 0} (part : S → Q) (w : Watching S) : Type 0 where
+  pub steps : (f : Watcher Q) (marks : ℕ) (table : List Row) (pick fuel : ℕ) (p : Process ℕ Image) (old new : Loose S) → IsGraph part w f
+      → picked_process old.machine.state pick ≡ Some p → IsStepOf w marks table pick fuel p old new → loose_part part new ≡ step f marks table pick fuel (loose_part part old)
+  pub rests : (f : Watcher Q) (marks : ℕ) (table : List Row) (pick fuel : ℕ) (l : Loose Q) → picked_process l.machine.state pick ≡ None → step f marks table pick fuel l ≡ l

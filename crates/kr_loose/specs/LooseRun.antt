@@ -1,6 +1,6 @@
 -- A loose run: a run by single steps, between which other processes may go on. A step is some instructions of a process, or the first
 -- stop of its call, or the call itself, or its second stop.
-use Rattle.std.specs.Prelude.{◌≡◌, ℕ, zero, suc, ◌+◌, ◌-◌, ◌==◌, Bool, false, List, [], ◌∷◌, Option, Some, None}
+use Rattle.std.specs.Prelude.{◌≡◌, ℕ, zero, suc, ◌+◌, ◌-◌, ◌==◌, Bool, false, List, [], ◌∷◌, map, Option, Some, None}
 use Rattle.std.specs.Option.{option_map_or}
 use Rattle.kr_turns.specs.rv_mem.Memory.{Memory}
 use Rattle.kr_turns.specs.rv_mem.declared.regs.Regs.{Regs}
@@ -14,7 +14,7 @@ use Rattle.kr_turns.specs.Breaking.{idle_rule, killed_rule}
 use Rattle.kr_turns.specs.Run.{Ending, Put, Slot, Spent, after_put, ending_of, put_by}
 use Rattle.kr_turns.specs.Shelving.{lacks_in}
 use Rattle.kr_turns.specs.Steps.{picked_process}
-use Rattle.kr_turns.specs.Turn.{Machine, Tally, killed, with_broken, with_status}
+use Rattle.kr_turns.specs.Turn.{Machine, Tally, killed, with_broken, with_part, with_status}
 use Rattle.kr_turns.specs.kr_stops.Stopped.{computed, image_in}
 use Rattle.kr_turns.specs.kr_stops.Watching.{Watcher, Watching}
 use Rattle.kr_loose.specs.Between.{Begun, Between, AtCall, Entered, Done, Paused, between_of, paused_at, unpaused}
@@ -52,6 +52,18 @@ pub record Moved (S : Type 0) : Type 0 where
   pub kind : StepKind
   pub machine : Machine S
   pub paused : List Paused
+
+-- ---- the same with a part of what the watcher keeps
+
+module _ {S Q : Type 0} (part : S → Q) where
+  abbrev pub moved_part : Moved S → Moved Q
+  moved_part made = record { kind = made.kind; machine = with_part part made.machine; paused = made.paused }
+
+  abbrev pub step_part : Step S → Step Q
+  step_part s = record { pick = s.pick; pid = s.pid; kind = s.kind; before = with_part part s.before; after = with_part part s.after }
+
+  abbrev pub loose_part : Loose S → Loose Q
+  loose_part l = record { machine = with_part part l.machine; paused = l.paused; steps = map step_part l.steps }
 
 -- ---- a step
 
