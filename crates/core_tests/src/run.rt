@@ -1,10 +1,8 @@
 //! Runs, and what is seen of them.
 ghost use Rattle.std.specs.Prelude.{◌≡◌, ◌<◌, ◌^◌, true};
 
-use kr_core::below::Stops;
+use kr_core::below::{Bytes, NoMemory, Places, Stops};
 use kr_core::{Kernel, Turned};
-use kr_view::Places;
-use pr_base::{Bytes, NoMemory};
 use std::alloc::Global;
 
 /// Adds what a turn put out, and forgets it.

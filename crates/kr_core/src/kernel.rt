@@ -16,10 +16,10 @@ ghost use Rattle.kr_turns.specs.kr_view.View.{StandsIn};
 use kr_first::below::{Tree, User};
 use kr_first::{First, StartFault, start};
 use kr_turns::below::{
-    Places, Reach, Rule, State, lawful_states_are_sound, reaches_too_far, trees_are_kept,
+    Bytes, NoMemory, Places, Reach, Rule, State, lawful_states_are_sound, reaches_too_far,
+    trees_are_kept,
 };
 use kr_turns::{Stops, make_turn, picked, ready};
-use pr_base::{Bytes, NoMemory};
 use std::alloc::Global;
 use std::marker::Model;
 

@@ -6,22 +6,22 @@ use Rattle.std.proofs.lemmas.Option.{same_Some}
 use Rattle.kr_steps.specs.rv_cpu.Run.{ran}
 use Rattle.kr_steps.specs.rv_cpu.declared.event.Event.{Event}
 use Rattle.kr_execve.specs.kr_view.View.{Row}
-use Rattle.kr_seen.specs.kr_model.Applied.{Mounts, images}
-use Rattle.kr_seen.specs.kr_model.Change.{End}
-use Rattle.kr_seen.specs.kr_model.State as model
-use Rattle.kr_seen.specs.kr_model.State.{Image, Process}
-use Rattle.kr_seen.proofs.law_lawful.AfterLemmas.{some-of}
-use Rattle.kr_seen.proofs.law_lawful.ProcessChangeLemmas.{found-passes}
-use Rattle.kr_seen.proofs.law_lawful.SumLemmas.{passed-test}
-use Rattle.kr_seen.specs.kr_ops.declared.state.State.{State}
-use Rattle.kr_seen.specs.kr_ops.Making.{Makes}
-use Rattle.kr_seen.specs.kr_ops.Living.{HasPid}
-use Rattle.kr_seen.specs.kr_ops.Meaning.{meaning}
-use Rattle.kr_seen.specs.kr_ops.Sound.{IsSound}
-use Rattle.kr_seen.proofs.kr_ops.OpeningLemmas.{found}
-use Rattle.kr_seen.specs.Numbered.{process_numbered, state_numbered}
-use Rattle.kr_seen.proofs.ChangeLemmas.{change-numbered}
-use Rattle.kr_seen.proofs.LookLemmas.{process-numbered}
+use Rattle.law_steady.specs.kr_model.Applied.{Mounts, images}
+use Rattle.law_steady.specs.kr_model.Change.{End}
+use Rattle.law_steady.specs.kr_model.State as model
+use Rattle.law_steady.specs.kr_model.State.{Image, Process}
+use Rattle.kr_calm.proofs.law_lawful.AfterLemmas.{some-of}
+use Rattle.kr_calm.proofs.law_lawful.ProcessChangeLemmas.{found-passes}
+use Rattle.kr_calm.proofs.law_lawful.SumLemmas.{passed-test}
+use Rattle.kr_hostview.specs.kr_ops.declared.state.State.{State}
+use Rattle.kr_hostview.specs.kr_ops.Making.{Makes}
+use Rattle.kr_hostview.specs.kr_ops.Living.{HasPid}
+use Rattle.kr_hostview.specs.kr_ops.Meaning.{meaning}
+use Rattle.kr_hostview.specs.kr_ops.Sound.{IsSound}
+use Rattle.kr_hostview.proofs.kr_ops.OpeningLemmas.{found}
+use Rattle.kr_calm.specs.kr_seen.Numbered.{process_numbered, state_numbered}
+use Rattle.kr_calm.proofs.kr_seen.ChangeLemmas.{change-numbered}
+use Rattle.kr_calm.proofs.kr_seen.LookLemmas.{process-numbered}
 use Rattle.kr_steps.specs.Computing.{Computes, computed}
 use Rattle.kr_turns.specs.Coming.{came_to}
 use Rattle.kr_turns.specs.Held.{stopped_in}
@@ -29,12 +29,12 @@ use Rattle.kr_turns.specs.Making.{ComesOut, IsCallMade, IsLeft, ended_with, mach
 use Rattle.kr_turns.specs.Breaking.{plain_rule}
 use Rattle.kr_turns.specs.PlainCall.{Came, plain_call}
 use Rattle.kr_turns.specs.Shelving.{lacks_in, shelved_in}
-use Rattle.kr_stops.specs.declared.handed.Handed.{Handed}
-use Rattle.kr_stops.specs.Stopped.{Stopped, nothing_handed}
+use Rattle.kr_steps.specs.kr_stops.declared.handed.Handed.{Handed}
+use Rattle.kr_steps.specs.kr_stops.Stopped.{Stopped, nothing_handed}
 use Rattle.kr_turns.specs.Turn.{ExitsIfAny, IsAfterEvent, IsAfterPlain, IsBorn, IsTurnOf, Machine, Tally, killed, with_broken}
-use Rattle.kr_stops.specs.Watching.{Watching}
+use Rattle.kr_steps.specs.kr_stops.Watching.{Watching}
 use Rattle.kr_turns.specs.declared.plain.Plain.{Plain}
-use Rattle.kr_stops.proofs.EditLemmas.{computed-lives}
+use Rattle.kr_steps.proofs.kr_stops.EditLemmas.{computed-lives}
 use Rattle.kr_turns.proofs.NumberLemmas.{computed-numbered}
 use Rattle.kr_calm.specs.declared.rule.Rule.{Rule}
 

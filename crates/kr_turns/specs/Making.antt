@@ -2,14 +2,14 @@
 use Rattle.std.specs.Prelude.{◌≡◌, ℕ, List, Option, Some}
 use Rattle.std.specs.Option.{option_map_or}
 use Rattle.kr_execve.specs.kr_view.View.{Row}
-use Rattle.kr_seen.specs.kr_model.State.{Image, Process, process}
-use Rattle.kr_seen.specs.kr_ops.declared.state.State.{State}
-use Rattle.kr_seen.specs.kr_ops.Meaning.{meaning}
-use Rattle.kr_seen.specs.Numbered.{state_numbered}
+use Rattle.law_steady.specs.kr_model.State.{Image, Process, process}
+use Rattle.kr_hostview.specs.kr_ops.declared.state.State.{State}
+use Rattle.kr_hostview.specs.kr_ops.Meaning.{meaning}
+use Rattle.kr_calm.specs.kr_seen.Numbered.{state_numbered}
 use Rattle.kr_turns.specs.Held.{stopped_in}
 use Rattle.kr_turns.specs.Turn.{ExitsIfAny, IsTurnOf, IsWatchedCall, Leaves, Machine, Tally, called, with_broken, with_status}
-use Rattle.kr_stops.specs.Watching.{Watching}
-use Rattle.kr_stops.specs.declared.handed.Handed.{Handed}
+use Rattle.kr_steps.specs.kr_stops.Watching.{Watching}
+use Rattle.kr_steps.specs.kr_stops.declared.handed.Handed.{Handed}
 use Rattle.kr_turns.specs.Coming.{came_to}
 use Rattle.kr_turns.specs.declared.plain.Plain.{Plain}
 use Rattle.kr_turns.specs.declared.turn.Made.{Made}

@@ -38,7 +38,7 @@ mod shelving;
 mod target;
 mod turn;
 
+pub use kr_steps::below::{Stops, Tracee, Unwatched};
 pub use kr_steps::{picked, ready};
-pub use kr_stops::{Stops, Tracee, Unwatched};
 pub use plain::{CallEnd, Plain, plain_call};
 pub use turn::{Made, make_turn};

@@ -2,14 +2,14 @@
 ghost use Rattle.std.specs.Prelude.{◌<◌, ◌^◌, ℕ, suc, length, IfOk, IsSome, OnOk};
 ghost use Rattle.kr_steps.specs.law_allowed.Told.{SourcesAreNamed};
 ghost use Rattle.kr_steps.specs.Calls.{Runs};
-ghost use Rattle.kr_seen.specs.kr_model.State.{process};
-ghost use Rattle.kr_seen.specs.kr_ops.Meaning.{meaning};
+ghost use Rattle.law_steady.specs.kr_model.State.{process};
+ghost use Rattle.kr_hostview.specs.kr_ops.Meaning.{meaning};
 ghost use Rattle.kr_turns.specs.Agreeing.{AgreesIn};
 ghost use Rattle.kr_turns.specs.Making.{ComesOut, IsCallMade, IsLeft, IsTurnMade};
-ghost use Rattle.kr_stops.specs.Remembering.{AgreesAt, FreesCaller, StillAgrees};
-ghost use Rattle.kr_stops.specs.Watching.{watching};
+ghost use Rattle.kr_steps.specs.kr_stops.Remembering.{AgreesAt, FreesCaller, StillAgrees};
+ghost use Rattle.kr_steps.specs.kr_stops.Watching.{watching};
 ghost use Rattle.kr_turns.specs.Held.{Stands, stopped_in};
-ghost use Rattle.kr_stops.specs.Stopped.{IsEdited, nothing_handed};
+ghost use Rattle.kr_steps.specs.kr_stops.Stopped.{IsEdited, nothing_handed};
 ghost use Rattle.kr_turns.specs.Turn.{IsBorn};
 
 use crate::here::Here;
@@ -19,11 +19,9 @@ use crate::shelving::shelve;
 use kr_calm::Rule;
 use kr_execve::below::Places;
 use kr_execve::marks_read;
-use kr_hostview::below::NoMemory;
-use kr_seen::below::{State, lawful_states_are_sound};
-use kr_steps::below::Event;
+use kr_hostview::below::{NoMemory, State, lawful_states_are_sound};
+use kr_steps::below::{Event, Handed, NOTHING_HANDED, Stops};
 use kr_steps::{compute, kill};
-use kr_stops::{Handed, NOTHING_HANDED, Stops};
 use std::alloc::Global;
 
 /// What a turn told.

@@ -1,8 +1,8 @@
 use Rattle.std.proofs.Common.{lit<}
 use Rattle.std.proofs.lemmas.Result.{on_ok_weaker}
-use Rattle.kr_seen.proofs.kr_ops.ListLemmas.{none-found}
-use Rattle.kr_seen.proofs.kr_ops.UseLemmas.{sound-of}
-use Rattle.kr_stops.specs.Watching.{watching}
+use Rattle.kr_hostview.proofs.kr_ops.ListLemmas.{none-found}
+use Rattle.kr_hostview.proofs.kr_ops.UseLemmas.{sound-of}
+use Rattle.kr_steps.specs.kr_stops.Watching.{watching}
 use Rattle.kr_turns.proofs.TurnLemmas.{comes-out, found-lives, stays-out}
 use Rattle.kr_turns.proofs.turn.come_out.Goals as goal
 

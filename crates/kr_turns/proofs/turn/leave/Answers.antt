@@ -1,7 +1,7 @@
 use Rattle.std.proofs.Common.{sym, subst}
 use Rattle.kr_turns.specs.Coming.{came_to}
 use Rattle.kr_turns.specs.Making.{machine_of}
-use Rattle.kr_stops.specs.Watching.{watching}
+use Rattle.kr_steps.specs.kr_stops.Watching.{watching}
 use Rattle.kr_turns.specs.Turn.{Leaves, called}
 use Rattle.kr_turns.proofs.turn.leave.Goals as goal
 

@@ -1,9 +1,9 @@
 use Rattle.std.proofs.Common.{◌≡◌, ◌+◌, suc, lit<, ap, subst, arith, ◌∙◌}
 use Rattle.kr_steps.specs.Calls.{MayCall, Runs}
-use Rattle.kr_seen.specs.kr_ops.Meaning.{meaning}
-use Rattle.kr_seen.specs.Numbered.{state_numbered}
+use Rattle.kr_hostview.specs.kr_ops.Meaning.{meaning}
+use Rattle.kr_calm.specs.kr_seen.Numbered.{state_numbered}
 use Rattle.kr_turns.specs.Breaking.{plain_rule}
-use Rattle.kr_stops.specs.Watching.{watching}
+use Rattle.kr_steps.specs.kr_stops.Watching.{watching}
 use Rattle.kr_turns.proofs.AgreeLemmas.{agrees-now, called-agrees}
 use Rattle.kr_turns.proofs.ShelfLemmas.{lacks-numbered, shelved-lives, shelved-numbered}
 use Rattle.kr_turns.proofs.TurnLemmas.{call-made}

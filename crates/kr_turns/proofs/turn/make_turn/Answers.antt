@@ -1,10 +1,10 @@
 use Rattle.std.proofs.Common.{◌+◌, lit<, ap, ◌∙◌, Option, ℕ}
 use Rattle.kr_steps.specs.rv_cpu.declared.event.Event.TheVariants.{Call, Killed, Next}
 use Rattle.kr_steps.proofs.ComputingLemmas.{runs-later}
-use Rattle.kr_seen.specs.kr_ops.Sound.{IsOfView}
-use Rattle.kr_seen.proofs.kr_ops.UseLemmas.{sound-of}
+use Rattle.kr_hostview.specs.kr_ops.Sound.{IsOfView}
+use Rattle.kr_hostview.proofs.kr_ops.UseLemmas.{sound-of}
 use Rattle.kr_turns.specs.Making.{machine_of, tally_after}
-use Rattle.kr_stops.specs.Watching.{watching}
+use Rattle.kr_steps.specs.kr_stops.Watching.{watching}
 use Rattle.kr_turns.specs.Turn.{with_broken, with_status}
 use Rattle.kr_turns.proofs.AgreeLemmas.{agrees-now, killed-agrees}
 use Rattle.kr_turns.proofs.BreakLemmas.{idle-here, killed-here}
