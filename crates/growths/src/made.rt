@@ -1,11 +1,12 @@
 //! Runs through the public call, over sources and sinks in memory.
+ghost use Rattle.std.specs.Prelude.{◌<◌, ◌^◌, length};
 
 use crate::judged::{Put, Told, Word, judge};
 use crate::scenes::Scene;
 use guests::below::{Bytes, NoMemory};
 use guests::guest;
 use pr_call::below::{CleanSink, CleanSource};
-use pr_call::proot;
+use pr_call::{Answer, proot};
 use std::alloc::Global;
 
 /// How many words a run may have.
@@ -74,9 +75,41 @@ fn listing_with(alloc: Global, text: &[u8], elf: &[u8]) -> Result<Bytes, NoMemor
     Ok(listing)
 }
 
+/// What the call reads.
+#[derive(Drop)]
+struct Sources {
+    tree: CleanSource,
+    elf: CleanSource,
+    input: CleanSource,
+}
+
+/// What it writes.
+#[derive(Drop)]
+struct Sinks {
+    out: CleanSink,
+    err: CleanSink,
+    left: CleanSink,
+}
+
 /// A source of these bytes.
 fn source(alloc: Global, bytes: &[u8]) -> Result<CleanSource, NoMemory> {
     Ok(CleanSource::new(Bytes::copy(alloc, bytes)?))
+}
+
+/// Makes the call.
+fn answer(alloc: Global, words: &[String], sources: &mut Sources, sinks: &mut Sinks) -> Answer
+    requires { length words.now < 2 ^ 32 }
+{
+    proot(
+        alloc,
+        words,
+        &mut sources.tree,
+        &mut sources.elf,
+        &mut sources.input,
+        &mut sinks.out,
+        &mut sinks.err,
+        &mut sinks.left,
+    )
 }
 
 /// Makes the run of a scene on a machine, and judges what came of it. Memory is wanting only before the run.
@@ -91,29 +124,24 @@ pub(crate) fn make(alloc: Global, machine: Machine, scene: Scene) -> Result<Word
         return Err(NoMemory);
     };
     let wanted = listing_with(alloc, scene.left, program.as_slice())?;
-    let mut tree = source(alloc, scene.tree)?;
-    let mut elf = CleanSource::new(program);
-    let mut input = source(alloc, scene.input.as_bytes())?;
-    let mut out = CleanSink::new(alloc);
-    let mut err = CleanSink::new(alloc);
-    let mut left = CleanSink::new(alloc);
-    let answer = proot(
-        alloc,
-        words.as_slice(),
-        &mut tree,
-        &mut elf,
-        &mut input,
-        &mut out,
-        &mut err,
-        &mut left,
-    );
+    let mut sources = Sources {
+        tree: source(alloc, scene.tree)?,
+        elf: CleanSource::new(program),
+        input: source(alloc, scene.input.as_bytes())?,
+    };
+    let mut sinks = Sinks {
+        out: CleanSink::new(alloc),
+        err: CleanSink::new(alloc),
+        left: CleanSink::new(alloc),
+    };
+    let answer = answer(alloc, words.as_slice(), &mut sources, &mut sinks);
     let told = Told {
         answer,
         put: Put {
-            out: out.got(),
-            err: err.got(),
+            out: sinks.out.got(),
+            err: sinks.err.got(),
         },
-        left: left.got(),
+        left: sinks.left.got(),
     };
     Ok(judge(&scene, machine.calm(), wanted.as_slice(), told))
 }
