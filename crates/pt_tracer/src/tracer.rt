@@ -210,6 +210,17 @@ impl Tracer {
         self.pausing.pause_at(t)
     }
 
+    /// An earlier entry of a process may have left a pause. What would be forgotten at this stop needn't be remembered first.
+    fn pause_anew<T: Tracee>(&mut self, t: &T, pid: u32) -> Result<(), NoMemory>
+        requires agrees { AgreesAt KeepingAgrees self.old (T.stopped t.now) }
+        ensures tracing { OnOk result (self.new.tracing ≡ self.old.tracing) }
+        ensures agrees { OnOk result (AgreesAt KeepingAgrees self.new (T.stopped t.now)) }
+        ensures others { OnOk result (KeepsOthersFree KeepingIsFree pid self.old self.new) }
+    {
+        self.resume_for(pid);
+        self.pause_at(t)
+    }
+
     /// Ends the pause for a process, if there is one.
     fn resume_for(&mut self, pid: u32)
         ensures tracing { self.new.tracing ≡ self.old.tracing }
@@ -249,8 +260,7 @@ impl Stops for Tracer {
 
     fn entry<T: Tracee>(&mut self, t: &mut T) -> Result<(), NoMemory> {
         let pid = t.pid();
-        // An earlier entry of the process may have left a pause.
-        self.resume_for(pid);
+        self.pause_anew(t, pid)?;
         self.enter(t)?;
         self.pause_at(t)
     }

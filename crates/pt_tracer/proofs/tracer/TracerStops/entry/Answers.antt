@@ -6,7 +6,7 @@ use Rattle.pt_tracer.proofs.PauseLemmas.{kept-paused}
 use Rattle.pt_tracer.proofs.tracer.TracerStops.entry.Goals as goal
 
 pub enter-requires : goal.enter-requires
-enter-requires g c = record { agrees = c.resume_for.ensures.agrees _ _ c.requires.agrees }
+enter-requires g c = record { agrees = c.in_ok-pause_anew.ensures.agrees }
 
 pub pause_at-requires : goal.pause_at-requires
 pause_at-requires g c =
@@ -16,9 +16,11 @@ pub returns-clause-enters : goal.returns-clause-enters
 returns-clause-enters g c =
     let t = g.T.Tracee.stopped c.args.t.now in
     let u = g.T.Tracee.stopped c.enter.new.t in
-    on_ok c.pause_at.result (λ same. ap (λ (x : Tracing). (x, u)) same ∙ c.in_ok-enter.ensures.enters ∙ ap (λ (x : Tracing). entered x t) c.resume_for.ensures.tracing) c.pause_at.ensures.tracing
+    on_ok c.pause_at.result (λ same. ap (λ (x : Tracing). (x, u)) same ∙ c.in_ok-enter.ensures.enters ∙ ap (λ (x : Tracing). entered x t) c.in_ok-pause_anew.ensures.tracing) c.pause_at.ensures.tracing
 
 pub returns-clause-others : goal.returns-clause-others
 returns-clause-others g c =
-    let walked = kept-paused c.resume_for.new.self.pausing c.enter.new.self.pausing c.in_ok-enter.ensures.pids c.in_ok-enter.ensures.walks.pauses in
-    on_ok c.pause_at.result (λ keeps. record { keeps = λ q other free. keeps q (walked q (c.resume_for.ensures.others.keeps q (λ e. other (e ∙ c.pid-pid.ensures.pid)) free)) }) c.pause_at.ensures.others
+    let walked = kept-paused c.pause_anew.new.self.pausing c.enter.new.self.pausing c.in_ok-enter.ensures.pids c.in_ok-enter.ensures.walks.pauses in
+    on_ok c.pause_at.result
+    (λ keeps. record { keeps = λ q other free. keeps q (walked q (c.in_ok-pause_anew.ensures.others.keeps q (λ e. other (e ∙ c.pid-pid.ensures.pid)) free)) })
+    c.pause_at.ensures.others
