@@ -1,5 +1,6 @@
 //! Guests whose calls are watched: what is done at their stops, and which stops come. All of it was worked out by hand.
-ghost use Rattle.std.specs.Prelude.{◌≡◌, true, IfOk};
+ghost use Rattle.std.specs.Prelude.{IfOk};
+ghost use Rattle.kr_core.specs.Kernel.{HasNoTurn};
 
 use crate::noting::Noting;
 use crate::run::run;
@@ -91,7 +92,7 @@ const EBREAK: &[u32] = &[
 
 /// A kernel over that listing whose calls are noted; its input is `abcd`.
 fn noted<const M: u8>(alloc: Global, elf: &[u8]) -> Result<Kernel<Plain, Noting, M>, Fail>
-    ensures { IfOk result (λ kernel. (kernel.whole ≡ true) × (kernel.turns ≡ 0)) }
+    ensures { IfOk result (λ kernel. HasNoTurn kernel) }
 {
     let (tree, user) = listed(alloc, HOST, elf)?;
     let places = Plain::new();
