@@ -1,6 +1,6 @@
 # Makes COUNT times 4,096 calls of the number CALL on the path at the end, from the working directory, with the third argument THIRD, or
-# an address of 4,096 mapped bytes where that is -1; each answer that OPENS a descriptor is closed. Ends with exit(2) and 0, or with 1
-# where a call answers an error.
+# an address of 4,096 mapped bytes where that is -1; each answer that OPENS a descriptor is closed, and the file removed where it REMOVES it.
+# Ends with exit(2) and 0, or with 1 where a call answers an error.
         addi    a7, zero, 222       # mmap
         addi    a0, zero, 0
         lui     a1, 1
@@ -27,6 +27,14 @@ again:
 .if OPENS
         addi    a7, zero, 57        # close
         ecall
+.endif
+.if REMOVES
+        addi    a7, zero, 35        # unlinkat
+        addi    a0, zero, -100
+        lla     a1, path
+        addi    a2, zero, 0
+        ecall
+        blt     a0, zero, failed
 .endif
         addi    s1, s1, -1
         bne     s1, zero, again

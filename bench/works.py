@@ -9,16 +9,20 @@ BOUND = [*ROOT, "-b", "/data:/mnt"]
 TWENTY = [*ROOT, *(word for k in range(20) for word in ("-b", f"/data:/m{k}"))]
 FILE = b"a line of a file that nobody reads in this run\n".hex()
 
-# the name, the call, its third argument, whether it opens a descriptor, the path, the words
+# O_WRONLY and O_CREAT
+CREATE = 0o101
+
+# the name, the call, its third argument, whether it opens a descriptor and whether it makes a file that is removed again, the path, the words
 CALLS = [
-    ("getppid", PARENT, 0, 0, "/f", ROOT),
-    ("openat and close, one deep", OPEN, 0, 1, "/f", ROOT),
-    ("openat and close, nine deep", OPEN, 0, 1, f"{DEEP}/f", ROOT),
-    ("newfstatat, nine deep", STAT, BUFFER, 0, f"{DEEP}/f", ROOT),
-    ("faccessat, nine deep", ACCESS, 4, 0, f"{DEEP}/f", ROOT),
-    ("openat and close, in a binding", OPEN, 0, 1, "/mnt/f", BOUND),
-    ("openat and close, 20 bindings", OPEN, 0, 1, "/f", TWENTY),
-    ("openat and close, in the last of 20", OPEN, 0, 1, "/m19/f", TWENTY),
+    ("getppid", PARENT, 0, 0, 0, "/f", ROOT),
+    ("openat and close, one deep", OPEN, 0, 1, 0, "/f", ROOT),
+    ("openat and close, nine deep", OPEN, 0, 1, 0, f"{DEEP}/f", ROOT),
+    ("newfstatat, nine deep", STAT, BUFFER, 0, 0, f"{DEEP}/f", ROOT),
+    ("faccessat, nine deep", ACCESS, 4, 0, 0, f"{DEEP}/f", ROOT),
+    ("openat and close, in a binding", OPEN, 0, 1, 0, "/mnt/f", BOUND),
+    ("openat and close, 20 bindings", OPEN, 0, 1, 0, "/f", TWENTY),
+    ("openat and close, in the last of 20", OPEN, 0, 1, 0, "/m19/f", TWENTY),
+    ("a file made, closed and removed, nine deep", OPEN, CREATE, 1, 1, f"{DEEP}/new", ROOT),
 ]
 
 
@@ -27,17 +31,17 @@ def tree_of_calls():
              "d 755 0 0 /data", "f 644 0 0 /data/f 00"]
     lines += [f"d 755 0 0 /g/m{k}" for k in range(20)]
     parts = DEEP.split("/")
-    lines += [f"d 755 0 0 /g{'/'.join(parts[:k])}" for k in range(2, len(parts) + 1)]
+    lines += [f"d 777 0 0 /g{'/'.join(parts[:k])}" for k in range(2, len(parts) + 1)]
     lines.append(f"f 644 0 0 /g{DEEP}/f 00")
     return "\n".join(lines) + "\n"
 
 
 def guest_of_calls(folder, row, count):
     """The guest of a row, with `count` times 4,096 calls, and its words."""
-    _, call, third, opens, path, words = row
+    _, call, third, opens, removes, path, words = row
     source, elf = folder / "calls.s", folder / "calls.elf"
     source.write_text((HERE / "calls.s").read_text() + f'        .asciz "{path}"\n')
-    elf.write_bytes(elf_of(code_of(source, folder, [f"COUNT={count}", f"CALL={call}", f"THIRD={third}", f"OPENS={opens}"])))
+    elf.write_bytes(elf_of(code_of(source, folder, [f"COUNT={count}", f"CALL={call}", f"THIRD={third}", f"OPENS={opens}", f"REMOVES={removes}"])))
     # Each call is a turn.
     return elf, ["--turns=10000000", *words, "/loop"]
 

@@ -1,11 +1,13 @@
 -- The definitions, evaluated.
 use Rattle.std.proofs.Common.{◌≡◌, ℕ, List, [], ◌∷◌, ◌++◌, Some, None, true, false, refl, map, replicate}
+use Rattle.std.proofs.lemmas.List.Elements.{All-head, All-nil}
 use Rattle.kr_core.specs.kr_turns.rv_mem.Memory.{Memory}
 use Rattle.kr_core.specs.kr_turns.kr_model.kr_inode.declared.user.User.{User}
 use Rattle.kr_core.specs.kr_turns.kr_model.kr_files.Descriptors.{Meanings}
 use Rattle.kr_core.specs.kr_turns.kr_model.kr_files.Files.{Table}
 use Rattle.kr_core.specs.kr_turns.kr_model.kr_tree.Tree.{Tree}
 use Rattle.kr_core.specs.kr_turns.kr_model.kr_tree.declared.place.Place.{Place}
+use Rattle.kr_core.specs.kr_turns.kr_model.Judged.{HasShape}
 use Rattle.kr_core.specs.kr_turns.kr_model.State.{Image, Process}
 use Rattle.kr_core.specs.kr_turns.kr_stops.Stopped.{nothing_handed}
 use Rattle.kr_core.specs.kr_turns.kr_stops.Watching.{unwatched}
@@ -15,7 +17,7 @@ use Rattle.kr_core.specs.Moving.{StepKind, Instructions, Entry, Plain, Exit}
 use Rattle.kr_core.specs.declared.paused.Between.TheVariants.{AtCall, Done, Entered}
 use Rattle.kr_core.specs.declared.paused.Paused.{Paused}
 use Rattle.kr_loose.specs.LooseRun.{Loose, Step, step}
-use Rattle.kr_loose.specs.Quiet.{others_since_entry}
+use Rattle.kr_loose.specs.Quiet.{AreUndisturbed, LeavesFor, others_since_entry}
 use Rattle.kr_loose.specs.Slots.{slots_of_steps}
 
 -- ---- where processes stand
@@ -55,6 +57,19 @@ module _ {S : Type 0} (m n : Machine S) where
 
   what_others_did_to_the_other : others_since_entry 2 a_call_that_waits ≡ did 0 1 Exit ∷ did 0 1 (Plain false) ∷ did 0 1 (Plain false) ∷ did 0 1 Entry ∷ []
   what_others_did_to_the_other = refl
+
+  -- ---- quiet
+
+  -- process 2 makes its call while process 1 stands behind its first stop: that counts where process 1 is carried out
+  abbrev another_call : List (Step S)
+  another_call = did 1 2 (Plain false) ∷ did 1 2 Entry ∷ did 0 1 Entry ∷ []
+
+  -- and where it isn't, it doesn't
+  a_change_that_no_call_follows : AreUndisturbed another_call
+  a_change_that_no_call_follows = (((tt, tt), tt), All-nil (LeavesFor false))
+
+  a_change_that_a_call_follows : (HasShape m.state.tree n.state.tree → ⊥) → AreUndisturbed (did 0 1 (Plain false) ∷ another_call) → ⊥
+  a_change_that_a_call_follows altered all = altered (All-head (LeavesFor false) (did 1 2 (Plain false)) (did 1 2 Entry ∷ []) all.1).0
 
 -- ---- two processes
 

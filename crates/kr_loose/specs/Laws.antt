@@ -4,11 +4,11 @@ use Rattle.kr_core.specs.kr_turns.kr_view.View.{Row}
 use Rattle.kr_core.specs.kr_turns.kr_model.State.{Image, Process}
 use Rattle.kr_core.specs.kr_turns.Steps.{picked_process}
 use Rattle.kr_core.specs.kr_turns.kr_stops.Watching.{IsGraph, Watcher, Watching}
-use Rattle.kr_loose.specs.LooseRun.{IsStepOf, Loose, step}
+use Rattle.kr_loose.specs.LooseRun.{IsStepOf, Loose, loose_part, step}
 
--- where the relations of a watcher are the graphs of functions, a step by the relations is the step by the functions; and where no
--- process is ready nothing changes
-pub record StepsAreFunctions {S : Type 0} (w : Watching S) : Type 0 where
-  pub steps : (f : Watcher S) (marks : ℕ) (table : List Row) (pick fuel : ℕ) (p : Process ℕ Image) (old new : Loose S) → IsGraph (λ x. x) w f
-      → picked_process old.machine.state pick ≡ Some p → IsStepOf w marks table pick fuel p old new → new ≡ step f marks table pick fuel old
-  pub rests : (f : Watcher S) (marks : ℕ) (table : List Row) (pick fuel : ℕ) (l : Loose S) → picked_process l.machine.state pick ≡ None → step f marks table pick fuel l ≡ l
+-- where the relations of a watcher are the graphs of functions on a part of what it keeps, a step by the relations is the step by the
+-- functions on that part; and where no process is ready nothing changes
+pub record StepsAreFunctions {S Q : Type 0} (part : S → Q) (w : Watching S) : Type 0 where
+  pub steps : (f : Watcher Q) (marks : ℕ) (table : List Row) (pick fuel : ℕ) (p : Process ℕ Image) (old new : Loose S) → IsGraph part w f
+      → picked_process old.machine.state pick ≡ Some p → IsStepOf w marks table pick fuel p old new → loose_part part new ≡ step f marks table pick fuel (loose_part part old)
+  pub rests : (f : Watcher Q) (marks : ℕ) (table : List Row) (pick fuel : ℕ) (l : Loose Q) → picked_process l.machine.state pick ≡ None → step f marks table pick fuel l ≡ l

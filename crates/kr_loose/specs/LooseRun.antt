@@ -1,12 +1,12 @@
 -- A loose run: a run by single steps, between which other processes may go on. A step is some instructions of a process, or the first
 -- stop of its call, or the call itself, or its second stop.
-use Rattle.std.specs.Prelude.{◌≡◌, ℕ, zero, suc, List, [], ◌∷◌, Option, Some, None}
+use Rattle.std.specs.Prelude.{◌≡◌, ℕ, zero, suc, List, [], ◌∷◌, map, Option, Some, None}
 use Rattle.std.specs.Option.{option_map_or}
 use Rattle.kr_core.specs.kr_turns.kr_view.View.{Row}
 use Rattle.kr_core.specs.kr_turns.kr_model.State.{Image, Process}
 use Rattle.kr_core.specs.kr_turns.Run.{Ending, Put, Slot, Spent, after_put, ending_of, put_by}
 use Rattle.kr_core.specs.kr_turns.Steps.{picked_process}
-use Rattle.kr_core.specs.kr_turns.Turn.{Machine}
+use Rattle.kr_core.specs.kr_turns.Turn.{Machine, with_part}
 use Rattle.kr_core.specs.kr_turns.kr_stops.Watching.{Watcher, Watching}
 use Rattle.kr_core.specs.Between.{between_of}
 use Rattle.kr_core.specs.Moving.{IsMoved, Moved, StepKind, moved}
@@ -30,6 +30,18 @@ pub record Loose (S : Type 0) : Type 0 where
 
 abbrev pub loosened : {S : Type 0} → Machine S → Loose S
 loosened m = record { machine = m; paused = []; steps = [] }
+
+-- ---- the same with a part of what the watcher keeps
+
+module _ {S Q : Type 0} (part : S → Q) where
+  abbrev pub moved_part : Moved S → Moved Q
+  moved_part made = record { kind = made.kind; machine = with_part part made.machine; paused = made.paused }
+
+  abbrev pub step_part : Step S → Step Q
+  step_part s = record { pick = s.pick; pid = s.pid; kind = s.kind; before = with_part part s.before; after = with_part part s.after }
+
+  abbrev pub loose_part : Loose S → Loose Q
+  loose_part l = record { machine = with_part part l.machine; paused = l.paused; steps = map step_part l.steps }
 
 module _ {S : Type 0} where
   -- a step of a process, noted

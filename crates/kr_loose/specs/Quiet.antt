@@ -22,8 +22,7 @@ is_entry Exit = false
 module _ {S : Type 0} where
   -- a step leaves the shape of the tree as it was, and for an execve(2) the bytes of files
   abbrev pub LeavesFor : (exec : Bool) → Step S → Type 0
-  LeavesFor false s = HasShape s.before.state.tree s.after.state.tree
-  LeavesFor true s = HasShape s.before.state.tree s.after.state.tree × HasBytes s.before.state.tree s.after.state.tree
+  LeavesFor exec s = HasShape s.before.state.tree s.after.state.tree × (exec ≡ true → HasBytes s.before.state.tree s.after.state.tree)
 
   abbrev pub is_own : ℕ → Step S → Bool
   is_own pid s = s.pid == pid
@@ -43,6 +42,11 @@ module _ {S : Type 0} where
   IsUndisturbed pid (Plain exec) earlier = All (LeavesFor exec) (others_since_entry pid earlier)
   IsUndisturbed pid Exit earlier = Unit {0}
 
+  -- and so does every call of a run. What others do behind its first stop counts where it is carried out, and there alone
+  abbrev pub AreUndisturbed : List (Step S) → Type 0
+  AreUndisturbed [] = Unit {0}
+  AreUndisturbed (s ∷ earlier) = AreUndisturbed earlier × IsUndisturbed s.pid s.kind earlier
+
 -- ---- the process directory
 
 -- `asks` tells of a watcher and a process at the first stop whether a walk for which the watcher asks there looks up a name in the process
@@ -54,13 +58,13 @@ module _ {S : Type 0} (asks : S → Stopped → Bool) (marks : ℕ) (table : Lis
   met_by (Plain exec) s = (plain_reach table s.pid s.before.state nothing_reached).met_proc
   met_by Exit s = false
 
-  -- ---- a run
+  abbrev pub MeetNone : List (Step S) → Type 0
+  MeetNone steps = All (λ s. met_by s.kind s ≡ false) steps
 
-  abbrev pub AreQuiet : List (Step S) → Type 0
-  AreQuiet [] = Unit {0}
-  AreQuiet (s ∷ earlier) = AreQuiet earlier × (met_by s.kind s ≡ false) × IsUndisturbed s.pid s.kind earlier
+  -- ---- a run
 
   -- by whether the walks of the start looked up such a name, too
   pub record IsQuiet (met_at_start : Bool) (steps : List (Step S)) : Type 0 where
     pub start : met_at_start ≡ false
-    pub steps_are : AreQuiet steps
+    pub walks : MeetNone steps
+    pub calls : AreUndisturbed steps

@@ -6,5 +6,5 @@ use kr_core::below::Stops;
 
 /// Where the relations of a watcher are graphs of functions, a step is the definition's by these functions.
 pub fn steps_are_functions<S: Stops>()
-    ensures { StepsAreFunctions (watching S.enters S.exits S.bears S.forgets) }
+    ensures { StepsAreFunctions (λ x. x) (watching S.enters S.exits S.bears S.forgets) }
 {}
