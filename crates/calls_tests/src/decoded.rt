@@ -1,6 +1,7 @@
-use kr_calls::{CallFault, Request, Stat, decode, dirent_bytes, path_of, script_line, stat_bytes};
-use pr_base::{NoMemory, WalkMode};
-use rv_mem::{Regs, Rights, Room, Space};
+use kr_ops::below::{
+    CallFault, NoMemory, Regs, Request, Rights, Room, Space, Stat, WalkMode, decode, dirent_bytes,
+    path_of, script_line, stat_bytes,
+};
 use std::alloc::Global;
 use std::process::Abort;
 use std::test::Fail;

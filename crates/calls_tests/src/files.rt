@@ -1,8 +1,7 @@
 //! What calls on a pipe answer with ample memory. All of it was worked out by hand.
 
 use crate::guest::Guest;
-use kr_files::{Moved, Wrote};
-use pr_base::NoMemory;
+use kr_ops::below::{Moved, NoMemory, Wrote};
 use std::test::Fail;
 
 /// Whether a write took as many bytes.

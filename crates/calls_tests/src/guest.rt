@@ -1,5 +1,4 @@
-use kr_files::{Descs, Files, FilesRefusal, Moved, Wrote};
-use pr_base::NoMemory;
+use kr_ops::below::{Descs, Files, FilesRefusal, Moved, NoMemory, Wrote};
 use std::alloc::Global;
 use std::marker::Model;
 
@@ -12,7 +11,7 @@ pub struct Guest {
 
 impl Model for Guest {
     ghost use Rattle.std.specs.Prelude.{ℕ};
-    ghost use Rattle.kr_files.specs.Serves.{Serves};
+    ghost use Rattle.kr_ops.specs.kr_files.Serves.{Serves};
 
     ghost Value = { ℕ };
 

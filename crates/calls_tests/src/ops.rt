@@ -1,10 +1,9 @@
 //! What changes of a state answer with ample memory, and what they leave. All of it was worked out by hand.
 
-use kr_files::Files;
 use kr_ops::State;
-use kr_tree::{Ino, Meta, Node, ROOT, Tree, TreeRefusal, User, is_name};
-use pr_base::{Bytes, NoMemory};
-use rv_mem::Room;
+use kr_ops::below::{
+    Bytes, Files, Ino, Meta, NoMemory, Node, ROOT, Room, Tree, TreeRefusal, User, is_name,
+};
 use std::alloc::Global;
 use std::test::Fail;
 

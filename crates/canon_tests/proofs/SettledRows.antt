@@ -6,11 +6,11 @@ use Rattle.std.specs.Str.{bytes_eq}
 use Rattle.std.proofs.lemmas.Bool.{and_parts, not-true, eq-eqb}
 use Rattle.std.proofs.lemmas.List.Sums.{AllPass-from_list_all}
 use Rattle.std.proofs.lemmas.Slice.Eq.{bytes_eq-Decides}
-use Rattle.pr_base.specs.MountText.{MountText, bound_of}
-use Rattle.pr_base.specs.Paths.{slash, dot, dot_dot, IsPart, AreParts}
-use Rattle.pr_base.specs.Texts.{Text, texts_eq}
-use Rattle.pr_base.proofs.TextLemmas.{texts_true}
-use Rattle.pt_bind.specs.Binding.{AreTexts, AreBounds}
+use Rattle.pt_results.specs.pr_base.MountText.{MountText, bound_of}
+use Rattle.pt_results.specs.pr_base.Paths.{slash, dot, dot_dot, IsPart, AreParts}
+use Rattle.pt_results.specs.pr_base.Texts.{Text, texts_eq}
+use Rattle.pt_results.proofs.pr_base.TextLemmas.{texts_true}
+use Rattle.pt_results.specs.pt_bind.Binding.{AreTexts, AreBounds}
 
 -- ---- the tests
 

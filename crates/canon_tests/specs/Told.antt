@@ -1,10 +1,10 @@
 -- What a kernel in memory tells: by its rows, and names that are the same for all.
 use Rattle.std.specs.Prelude.{ℕ, Bool, true, false, List, nat_eq, Option, Some, None, Result, Ok, Err, bytes_eq, codes, if◌then◌else◌}
 use Rattle.std.specs.List.{find}
-use Rattle.pr_base.specs.declared.errno.Errno.{Errno}
-use Rattle.pr_base.specs.declared.errno.Errno.TheVariants.{EINVAL, ENOENT}
-use Rattle.pr_base.specs.declared.peeks.PeekKind.{PeekKind}
-use Rattle.pr_base.specs.declared.peeks.PeekKind.TheVariants as kind
+use Rattle.pt_results.specs.pr_base.declared.errno.Errno.{Errno}
+use Rattle.pt_results.specs.pr_base.declared.errno.Errno.TheVariants.{EINVAL, ENOENT}
+use Rattle.pt_results.specs.pr_base.declared.peeks.PeekKind.{PeekKind}
+use Rattle.pt_results.specs.pr_base.declared.peeks.PeekKind.TheVariants as kind
 use Rattle.canon_tests.specs.declared.told.Row.{Row}
 use Rattle.canon_tests.specs.declared.told.Stands.{Stands}
 use Rattle.canon_tests.specs.declared.told.Stands.TheVariants as stands

@@ -3,9 +3,9 @@ use Rattle.std.proofs.Common.{◌≡◌, ◌≢◌, ℕ, Bool, true, false, [], 
 use Rattle.std.specs.Prelude.{codes, nat_eq, IfSome, if◌then◌else◌}
 use Rattle.std.specs.List.{All}
 use Rattle.std.proofs.lemmas.List.Elements.{All-nil, All-cons}
-use Rattle.pr_base.specs.Paths.{IsName}
-use Rattle.pr_base.specs.Texts.{IsText}
-use Rattle.pr_base.specs.declared.peeks.PeekKind.TheVariants.{Jump}
+use Rattle.pt_results.specs.pr_base.Paths.{IsName}
+use Rattle.pt_results.specs.pr_base.Texts.{IsText}
+use Rattle.pt_results.specs.pr_base.declared.peeks.PeekKind.TheVariants.{Jump}
 use Rattle.canon_tests.specs.Told.{base_told, is_steady, kind_of, kind_told, steady_told}
 use Rattle.canon_tests.specs.declared.told.Row.{Row}
 use Rattle.canon_tests.specs.declared.told.Stands.{Stands}

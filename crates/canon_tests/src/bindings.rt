@@ -2,8 +2,7 @@
 
 use crate::tables;
 use crate::texts::is_text;
-use pr_base::{Bytes, NoMemory};
-use pt_bind::Table;
+use pt_results::below::{Bytes, NoMemory, Table};
 use std::alloc::Global;
 use std::test::Fail;
 

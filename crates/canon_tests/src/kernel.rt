@@ -1,11 +1,11 @@
 //! A kernel in memory, which tells what its rows say.
 ghost use Rattle.std.specs.Prelude.{◌≡◌, IfOk, OnOk};
 ghost use Rattle.std.specs.Option.{option_copied};
-ghost use Rattle.pr_base.specs.Peeks.{IsPeeked};
+ghost use Rattle.pt_results.specs.pr_base.Peeks.{IsPeeked};
 ghost use Rattle.canon_tests.specs.Told.{is_steady, row_at, kind_of, text_in};
 
 use crate::told::{Row, Stands};
-use pr_base::{BaseKind, Bytes, Errno, NoMemory, PeekFault, PeekKind, Peeks};
+use pt_results::below::{BaseKind, Bytes, Errno, NoMemory, PeekFault, PeekKind, Peeks};
 use std::alloc::Global;
 
 /// A kernel of one process, whose working directory is `/data`, its executable `/data/n`, its descriptor 4 a pipe and
@@ -124,8 +124,8 @@ fn is_steady(stands: &Stands) -> bool
 
 impl Peeks for Told {
     ghost use Rattle.std.specs.Prelude.{Err};
-    ghost use Rattle.pr_base.specs.declared.errno.Errno.TheVariants.{EACCES};
-    ghost use Rattle.pr_base.specs.declared.peeks.BaseKind.TheVariants.{Other};
+    ghost use Rattle.pt_results.specs.pr_base.declared.errno.Errno.TheVariants.{EACCES};
+    ghost use Rattle.pt_results.specs.pr_base.declared.peeks.BaseKind.TheVariants.{Other};
     ghost use Rattle.canon_tests.specs.Told.{base_told, cwd_told, exe_told, kind_told, steady_told, text_told};
     ghost use Rattle.canon_tests.specs.ToldNames.{base_text, data_text, n_text, no_jump_told};
 

@@ -1,8 +1,7 @@
 //! Tables of bindings for tests.
 ghost use Rattle.std.specs.Prelude.{◌≡◌, ◌++◌, ◌∷◌, [], OnOk, IfOk};
 
-use pr_base::{Bound, Bytes, NoMemory};
-use pt_bind::Table;
+use pt_results::below::{Bound, Bytes, NoMemory, Table};
 use std::alloc::Global;
 
 fn bound(

@@ -1,6 +1,6 @@
 //! What the calls on tags answer with ample memory.
 
-use pt_bind::Tags;
+use pt_results::below::Tags;
 use std::test::Fail;
 
 /// What has a tag in a process.

@@ -3,10 +3,7 @@
 
 use crate::tables;
 use crate::walking::{Bench, Case, End, THERE, Want, listed, meets};
-use kr_calls::Request;
-use pr_base::{Bytes, Errno, Last, NoMemory, WalkMode};
-use pt_bind::Tags;
-use pt_canon::{WalkErr, Walker};
+use pt_results::below::{Bytes, Errno, Last, NoMemory, Request, Tags, WalkErr, WalkMode, Walker};
 use std::alloc::Global;
 use std::test::Fail;
 

@@ -1,9 +1,9 @@
 //! Texts that tests hand to calls.
 ghost use Rattle.std.specs.Prelude.{IsTrue, IfOk};
-ghost use Rattle.pr_base.specs.Paths.{IsPart};
-ghost use Rattle.pt_bind.specs.Binding.{IsWritten};
+ghost use Rattle.pt_results.specs.pr_base.Paths.{IsPart};
+ghost use Rattle.pt_results.specs.pt_bind.Binding.{IsWritten};
 
-use pr_base::{Bytes, NoMemory, components};
+use pt_results::below::{Bytes, NoMemory, components};
 use std::alloc::Global;
 
 /// Whether bytes are a name between slashes.

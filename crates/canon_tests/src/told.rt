@@ -1,6 +1,6 @@
 //! What stands at the paths of a kernel in memory. The types alone are in the library, since definitions speak of them.
 
-use pr_base::{Bytes, Errno};
+use pt_results::below::{Bytes, Errno};
 
 /// What stands at a host path.
 #[derive(Drop)]

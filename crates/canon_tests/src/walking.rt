@@ -4,11 +4,10 @@ ghost use Rattle.std.specs.Prelude.{◌≢◌};
 use crate::kernel::Told;
 use crate::texts::is_text;
 use crate::told::Stands;
-use kr_calls::Request;
-use pr_base::{Errno, Last, NoMemory, Texts, WalkMode};
-use pt_args::{Edit, rewrite};
-use pt_bind::{Table, Tags};
-use pt_canon::{Canon, WalkErr, Walker};
+use pt_results::below::{
+    Canon, Edit, Errno, Last, NoMemory, Request, Table, Tags, Texts, WalkErr, WalkMode, Walker,
+    rewrite,
+};
 use pt_results::{cwd_answer, link_answer};
 use pt_script::{Expanded, expand};
 use std::alloc::Global;

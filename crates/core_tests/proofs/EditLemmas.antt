@@ -1,9 +1,9 @@
 -- What a watcher does to a stopped process edits it.
 use Rattle.std.proofs.Common.{◌≡◌, ℕ, List, refl, sym, ap, subst, ◌∙◌}
 use Rattle.std.specs.Prelude.{IsSome, slice_set}
-use Rattle.rv_mem.specs.Memory.{after_read, with_pages}
-use Rattle.rv_mem.specs.Pages.{written}
-use Rattle.rv_mem.proofs.LayoutLemmas.{layouts_follow}
+use Rattle.kr_core.specs.rv_mem.Memory.{after_read, with_pages}
+use Rattle.kr_core.specs.rv_mem.Pages.{written}
+use Rattle.kr_core.proofs.rv_mem.LayoutLemmas.{layouts_follow}
 use Rattle.kr_core.specs.kr_model.State.{process}
 use Rattle.kr_core.specs.kr_stops.Editing.{after_peek, after_poke, memory_at, with_register}
 use Rattle.kr_core.specs.kr_stops.Stopped.{IsEdited, IsThere, Stopped, edited, image_at}

@@ -1,8 +1,8 @@
 -- What a kernel asks of the tree, the user and the mounts over which it begins.
 use Rattle.std.specs.Prelude.{◌<◌, ◌^◌, List, length}
-use Rattle.kr_tree.specs.kr_inode.declared.user.User.{User}
-use Rattle.kr_tree.specs.Tree.{Tree}
-use Rattle.kr_view.specs.View.{Row, StandsIn}
+use Rattle.kr_core.specs.kr_inode.declared.user.User.{User}
+use Rattle.kr_core.specs.kr_tree.Tree.{Tree}
+use Rattle.kr_core.specs.kr_view.View.{Row, StandsIn}
 use Rattle.kr_core.specs.law_allowed.Told.{SourcesAreNamed}
 use Rattle.kr_core.specs.kr_start.Beginning.{CanLast}
 use Rattle.kr_core.specs.kr_start.Start.{HasNoHolds}

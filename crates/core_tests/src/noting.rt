@@ -2,9 +2,7 @@
 ghost use Rattle.std.specs.Prelude.{◌≡◌};
 ghost use Rattle.kr_core.specs.kr_stops.Stopped.{IsEdited, IsThere};
 
-use kr_core::below::{Stops, Tracee};
-use pr_base::{Bytes, NoMemory};
-use rv_mem::{StoreFault, Use};
+use kr_core::below::{Bytes, NoMemory, Stops, StoreFault, Tracee, Use};
 use std::alloc::Global;
 
 /// Registers by their numbers: the stack pointer, the first two arguments, the first of which is the answer, and the number of the call.

@@ -2,10 +2,8 @@
 ghost use Rattle.std.specs.Prelude.{◌≡◌, ◌<◌, ◌^◌};
 ghost use Rattle.kr_core.specs.Kernel.{HasNoTurn};
 
-use kr_core::below::Stops;
+use kr_core::below::{Bytes, NoMemory, Places, Stops};
 use kr_core::{Kernel, Turned};
-use kr_view::Places;
-use pr_base::{Bytes, NoMemory};
 use std::alloc::Global;
 
 /// Adds what a turn put out, and forgets it.

@@ -1,11 +1,10 @@
 //! Trees over which kernels begin.
 ghost use Rattle.std.specs.Prelude.{IfOk};
-ghost use Rattle.kr_view.specs.View.{plain};
+ghost use Rattle.kr_core.specs.kr_view.View.{plain};
 ghost use Rattle.core_tests.specs.Ready.{IsReady};
 
-use kr_text::read;
-use kr_tree::laws::trees_are_kept;
-use kr_tree::{Tree, User};
+use guests::below::read;
+use kr_core::below::{Tree, User, trees_are_kept};
 use std::alloc::Global;
 use std::test::Fail;
 

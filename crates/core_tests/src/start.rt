@@ -2,12 +2,9 @@
 ghost use Rattle.std.specs.Prelude.{◌≡◌, true, IfOk};
 ghost use Rattle.kr_core.specs.kr_first.Started.{LeadsToDirectory};
 ghost use Rattle.kr_core.specs.law_allowed.Texts.{IsText};
-ghost use Rattle.kr_view.specs.View.{plain};
+ghost use Rattle.kr_core.specs.kr_view.View.{plain};
 
-use kr_core::below::{First, directory_at};
-use kr_tree::{Tree, User};
-use kr_view::{Plain, Reach};
-use pr_base::{Bytes, NoMemory, Texts};
+use kr_core::below::{Bytes, First, NoMemory, Plain, Reach, Texts, Tree, User, directory_at};
 use std::alloc::Global;
 use std::test::Fail;
 

@@ -1,8 +1,8 @@
+use elf_load::below::check;
+use elf_load::below::pr_base::{Bytes, Texts};
+use elf_load::below::rv_mem::{Room, Use};
 use elf_load::{Image, LoadFault, load};
-use elf_read::check;
 use guests::HELLO;
-use pr_base::{Bytes, Texts};
-use rv_mem::{Room, Use};
 use std::alloc::Global;
 use std::process::Abort;
 use std::test::Fail;

@@ -1,6 +1,6 @@
 //! Which files are accepted, and which rule others break first. All of it was worked out by hand.
 
-use elf_read::{ElfFault, Segment, check};
+use elf_load::below::{ElfFault, Segment, check};
 use guests::HELLO;
 
 /// A program header, as far as these tests vary it: its kind, its offset, its address, and its sizes in the file and in memory.

@@ -1,5 +1,5 @@
-use elf_read::check;
-use elf_write::write;
+use elf_load::below::check;
+use guests::below::elf_write::write;
 use std::test::Fail;
 
 // A file of code and data; data on the next free page behind code of these sizes; and a file without data.

@@ -6,7 +6,7 @@ use Rattle.std.proofs.lemmas.Nat.{from_le_bytes-to_le_bytes_4, from_le_bytes-to_
 use Rattle.std.proofs.lemmas.List.{take_at, length-replicate}
 use Rattle.std.proofs.Math.Seq.{drop-append_seam}
 use Rattle.std.proofs.lemmas.Bool.Decides.{nat_tests}
-use Rattle.pr_base.specs.Fields.{little_endian}
+use Rattle.elf_read.specs.pr_base.Fields.{little_endian}
 use Rattle.elf_read.specs.Headers.{file_header, program_header, table_entries}
 use Rattle.elf_read.specs.Rules.{first_broken_identity}
 use Rattle.elf_read.specs.declared.headers.FileHeader.{FileHeader}

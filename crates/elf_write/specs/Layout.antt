@@ -2,7 +2,7 @@
 use Rattle.std.specs.Prelude.{ℕ, ◌+◌, ◌-◌, ◌*◌, ◌==◌, if◌then◌else◌, List, [], ◌∷◌, ◌++◌, length, replicate}
 use Rattle.std.specs.Int.{div_ceil, to_le_bytes, w32, w64}
 use Rattle.elf_read.specs.declared.plan.Segment.{Segment}
-use Rattle.pr_base.specs.Page.{page_size}
+use Rattle.elf_read.specs.pr_base.Page.{page_size}
 
 -- ---- the segments, by the sizes of the code and of the first bytes of the data
 

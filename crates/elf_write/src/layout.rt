@@ -5,7 +5,7 @@ ghost use Rattle.elf_read.specs.Rules.{first_broken};
 ghost use Rattle.elf_write.specs.Layout.{code_segment, data_segment, data_offset, padded, program_header_bytes, segments, written};
 
 use elf_read::Segment;
-use pr_base::{Bytes, NoMemory, PAGE_SIZE};
+use elf_read::below::pr_base::{Bytes, NoMemory, PAGE_SIZE};
 use std::alloc::Global;
 
 /// The size of a page, as a length.

@@ -1,6 +1,6 @@
 //! Bytes with ample memory, paths, and numbers that were worked out by hand.
 
-use pr_base::{Bytes, Errno, Last, Texts, bits, components, field_u16, field_u32, field_u64};
+use pr_io::below::{Bytes, Errno, Last, Texts, bits, components, field_u16, field_u32, field_u64};
 use std::test::Fail;
 
 #[test]

@@ -1,6 +1,6 @@
 //! Sinks in memory with ample memory, and sources and sinks over files: what contracts leave open.
 
-use pr_base::{Bytes, NoMemory};
+use pr_io::below::{Bytes, NoMemory};
 use pr_io::{
     CleanSink, Cut, Failed, FileSink, FileSource, MemSink, PutFault, ReplacingSink, Sink, Source,
 };

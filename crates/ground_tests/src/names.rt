@@ -1,8 +1,8 @@
 //! Names in the process directory, with ample memory: contracts allow want of it, and these rows show that it isn't
 //! answered.
 
+use kr_procfs::below::kr_view::ProcAt;
 use kr_procfs::{number_of, pipe_text, proc_name};
-use kr_tree::ProcAt;
 use std::test::Fail;
 
 #[test]

@@ -2,10 +2,10 @@
 
 use crate::judged::{Put, Told, Word, judge};
 use crate::scenes::Scene;
+use guests::below::{Bytes, NoMemory};
 use guests::guest;
-use pr_base::{Bytes, NoMemory};
+use pr_call::below::{CleanSink, CleanSource};
 use pr_call::proot;
-use pr_io::{CleanSink, CleanSource};
 use std::alloc::Global;
 
 /// How many words a run may have.

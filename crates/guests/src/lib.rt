@@ -5,6 +5,7 @@
 //! What the tests of several crates stand on: a program and a listing.
 #![tactic(auto)]
 
+pub mod below;
 mod fixtures;
 mod text;
 

@@ -7,7 +7,7 @@
 //! a path that begins with `/` or `.`, any other text behind `'`, and numbers. The step `sp` sets the stack pointer to a number.
 
 use crate::HELLO;
-use pr_base::{Bytes, NoMemory, Texts};
+use pr_gen::below::{Bytes, NoMemory, Texts};
 use pr_gen::{Arg, ProbeStep, Show, Who, is_probe, probe};
 use std::alloc::{AllocError, AllocFailed, Global};
 

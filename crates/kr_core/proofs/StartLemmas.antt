@@ -1,8 +1,8 @@
 -- A start holds some inodes, and so leaves the shape of the tree.
 use Rattle.std.proofs.Common.{◌≡◌, ℕ, Bool, true, false, cond, List, [], ◌∷◌, Option, Some, None, Result, Ok, Err, refl, sym, ap, subst, ◌∙◌}
 use Rattle.std.specs.Option.{option_and_then, option_map, option_map_or}
-use Rattle.pr_base.specs.declared.errno.Errno.{Errno}
-use Rattle.pr_base.specs.declared.errno.Errno.TheVariants.{ENOENT, ENOMEM}
+use Rattle.kr_turns.specs.pr_base.declared.errno.Errno.{Errno}
+use Rattle.kr_turns.specs.pr_base.declared.errno.Errno.TheVariants.{ENOENT, ENOMEM}
 use Rattle.kr_first.specs.kr_inode.declared.user.User.{User}
 use Rattle.kr_first.specs.kr_tree.Changes.{held}
 use Rattle.kr_first.specs.kr_tree.Lawful.{IsSound}

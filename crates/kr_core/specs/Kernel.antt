@@ -1,7 +1,7 @@
 -- A kernel as its callers see it, its start, and its turns.
 use Rattle.std.specs.Prelude.{◌≡◌, ◌≢◌, ◌<◌, ◌^◌, ℕ, suc, Bool, true, List, [], length, Option, Some, None, nat_eq, Result, Ok, Err, if◌then◌else◌}
 use Rattle.std.specs.Option.{option_map}
-use Rattle.pr_base.specs.declared.errno.Errno.{Errno}
+use Rattle.kr_turns.specs.pr_base.declared.errno.Errno.{Errno}
 use Rattle.kr_first.specs.kr_inode.declared.user.User.{User}
 use Rattle.kr_first.specs.kr_tree.Tree.{Tree}
 use Rattle.kr_turns.specs.kr_view.declared.target.Reach.{Reach}

@@ -1,9 +1,15 @@
-pub use Rattle.pr_base.specs as pr_base
+pub use Rattle.kr_turns.specs.pr_base as pr_base
+pub use Rattle.kr_turns.specs.rv_mem as rv_mem
 pub use Rattle.kr_turns.specs.rv_cpu as rv_cpu
+pub use Rattle.kr_first.specs.kr_inode as kr_inode
 pub use Rattle.kr_first.specs.kr_tree as kr_tree
+pub use Rattle.kr_first.specs.kr_text as kr_text
+pub use Rattle.kr_turns.specs.kr_view as kr_view
+pub use Rattle.kr_first.specs.kr_mounts as kr_mounts
 pub use Rattle.kr_first.specs.kr_model as kr_model
 pub use Rattle.kr_turns.specs.law_lawful as law_lawful
 pub use Rattle.kr_first.specs.law_allowed as law_allowed
+pub use Rattle.kr_first.specs.law_walks as law_walks
 pub use Rattle.kr_turns.specs.kr_seen as kr_seen
 pub use Rattle.kr_turns.specs.kr_execve as kr_execve
 pub use Rattle.kr_first.specs as kr_first

@@ -29,13 +29,13 @@ use crate::paused::{
 use kr_first::below::{Tree, User};
 use kr_first::{First, StartFault, start};
 use kr_turns::below::{
-    Places, Reach, Rule, State, lawful_states_are_sound, reaches_too_far, trees_are_kept,
+    Bytes, NoMemory, Places, Reach, Rule, State, lawful_states_are_sound, reaches_too_far,
+    trees_are_kept,
 };
 use kr_turns::{
     After, Halt, Stops, Stretch, enter_call, leave_call, make_call, picked, ready, register,
     run_for,
 };
-use pr_base::{Bytes, NoMemory};
 use std::alloc::Global;
 use std::marker::Model;
 

@@ -5,8 +5,8 @@ ghost use Rattle.std.specs.Option.{option_copied};
 ghost use Rattle.kr_core.specs.Between.{begun_at, between_of, handed_at, is_paused, paused_at, phase_at, unpaused};
 ghost use Rattle.kr_core.specs.Moving.{paused_after, paused_by};
 
+use kr_turns::below::NoMemory;
 use kr_turns::{After, Halt, Handed};
-use pr_base::NoMemory;
 
 /// What a process that lives does next.
 #[derive(Clone, Copy)]

@@ -2,14 +2,14 @@
 use Rattle.std.proofs.Common.{◌≡◌, ◌≤◌, ℕ, ◌+◌, Bool, true, false, ◌||◌, cond, List, Result, Ok, Err, length, refl, sym, ap, ◌∙◌}
 use Rattle.std.specs.Prelude.{nat_lt}
 use Rattle.std.specs.Result.{IfOk}
-use Rattle.kr_view.specs.kr_tree.declared.place.Place.{Place}
-use Rattle.kr_view.specs.declared.target.Target.{Target}
-use Rattle.kr_view.specs.declared.target.WalkFault.{WalkFault}
-use Rattle.kr_view.specs.declared.target.WalkFault.TheVariants as fault
-use Rattle.kr_view.specs.declared.target.Reach.{Reach}
-use Rattle.kr_view.specs.Component.{Surroundings}
-use Rattle.kr_view.specs.Reach.{Covers}
-use Rattle.kr_view.proofs.ReachLemmas.{covers_refl}
+use Rattle.kr_walk.specs.kr_tree.declared.place.Place.{Place}
+use Rattle.kr_walk.specs.kr_view.declared.target.Target.{Target}
+use Rattle.kr_walk.specs.kr_view.declared.target.WalkFault.{WalkFault}
+use Rattle.kr_walk.specs.kr_view.declared.target.WalkFault.TheVariants as fault
+use Rattle.kr_walk.specs.kr_view.declared.target.Reach.{Reach}
+use Rattle.kr_walk.specs.kr_view.Component.{Surroundings}
+use Rattle.kr_walk.specs.kr_view.Reach.{Covers}
+use Rattle.kr_walk.proofs.kr_view.ReachLemmas.{covers_refl}
 use Rattle.kr_calls.specs.Expansion.{bytes_with_ends, is_too_big, most_scripts}
 use Rattle.kr_exec.specs.declared.plan.ExecPlan.{ExecPlan}
 use Rattle.kr_exec.specs.Answers.{Reaches}

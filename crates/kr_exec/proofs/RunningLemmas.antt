@@ -4,17 +4,17 @@ use Rattle.std.specs.Option.{option_map}
 use Rattle.elf_read.specs.pr_base.declared.errno.Errno.{Errno}
 use Rattle.elf_read.specs.pr_base.declared.errno.Errno.TheVariants.{E2BIG, ELOOP}
 use Rattle.elf_read.specs.pr_base.declared.path.WalkMode.TheVariants.{Look}
-use Rattle.kr_view.specs.kr_tree.declared.place.Place.{Place}
-use Rattle.kr_view.specs.kr_tree.Tree.{Tree}
-use Rattle.kr_view.specs.declared.target.Target.{Target}
-use Rattle.kr_view.specs.declared.target.WalkFault.{WalkFault}
-use Rattle.kr_view.specs.declared.target.WalkFault.TheVariants as fault
-use Rattle.kr_view.specs.declared.target.Reach.{Reach}
-use Rattle.kr_view.specs.Answers.{IsReached, target_numbered}
-use Rattle.kr_view.specs.Component.{Surroundings}
-use Rattle.kr_view.specs.Leads.{numbered}
-use Rattle.kr_view.specs.Reach.{Covers, reach_after}
-use Rattle.kr_view.proofs.ReachLemmas.{covers_refl, covers_trans, covers_after}
+use Rattle.kr_walk.specs.kr_tree.declared.place.Place.{Place}
+use Rattle.kr_walk.specs.kr_tree.Tree.{Tree}
+use Rattle.kr_walk.specs.kr_view.declared.target.Target.{Target}
+use Rattle.kr_walk.specs.kr_view.declared.target.WalkFault.{WalkFault}
+use Rattle.kr_walk.specs.kr_view.declared.target.WalkFault.TheVariants as fault
+use Rattle.kr_walk.specs.kr_view.declared.target.Reach.{Reach}
+use Rattle.kr_walk.specs.kr_view.Answers.{IsReached, target_numbered}
+use Rattle.kr_walk.specs.kr_view.Component.{Surroundings}
+use Rattle.kr_walk.specs.kr_view.Leads.{numbered}
+use Rattle.kr_walk.specs.kr_view.Reach.{Covers, reach_after}
+use Rattle.kr_walk.proofs.kr_view.ReachLemmas.{covers_refl, covers_trans, covers_after}
 use Rattle.kr_calls.specs.Expansion.{Finding, Expanded, expanded, is_script, is_too_big, most_scripts, new_args, runs, by_line, by_interpreter}
 use Rattle.kr_calls.specs.Scripts.{script_of}
 use Rattle.kr_exec.specs.declared.scripts.Command.{Command}

@@ -1,18 +1,18 @@
 -- What the code answers, over the mounts as a machine calls them.
 use Rattle.std.specs.Prelude.{ℕ, ◌≡◌, List, Option, Result, Ok, Err}
 use Rattle.elf_read.specs.pr_base.declared.errno.Errno.{Errno}
-use Rattle.kr_view.specs.kr_tree.declared.place.ProcAt.{ProcAt}
-use Rattle.kr_view.specs.declared.procs.Lead.{Lead}
-use Rattle.kr_view.specs.declared.target.Target.{Target}
-use Rattle.kr_view.specs.declared.target.WalkFault.{WalkFault}
-use Rattle.kr_view.specs.declared.target.WalkFault.TheVariants as fault
-use Rattle.kr_view.specs.declared.target.Reach.{Reach}
-use Rattle.kr_view.specs.Answers.{target_numbered}
-use Rattle.kr_view.specs.Component.{Surroundings}
-use Rattle.kr_view.specs.Leads.{numbered}
-use Rattle.kr_view.specs.Reach.{Covers}
-use Rattle.kr_view.specs.View.{Row}
-use Rattle.kr_view.specs.Walk.{surroundings}
+use Rattle.kr_walk.specs.kr_tree.declared.place.ProcAt.{ProcAt}
+use Rattle.kr_walk.specs.kr_view.declared.procs.Lead.{Lead}
+use Rattle.kr_walk.specs.kr_view.declared.target.Target.{Target}
+use Rattle.kr_walk.specs.kr_view.declared.target.WalkFault.{WalkFault}
+use Rattle.kr_walk.specs.kr_view.declared.target.WalkFault.TheVariants as fault
+use Rattle.kr_walk.specs.kr_view.declared.target.Reach.{Reach}
+use Rattle.kr_walk.specs.kr_view.Answers.{target_numbered}
+use Rattle.kr_walk.specs.kr_view.Component.{Surroundings}
+use Rattle.kr_walk.specs.kr_view.Leads.{numbered}
+use Rattle.kr_walk.specs.kr_view.Reach.{Covers}
+use Rattle.kr_walk.specs.kr_view.View.{Row}
+use Rattle.kr_walk.specs.kr_view.Walk.{surroundings}
 use Rattle.kr_calls.specs.Expansion.{Expanded}
 use Rattle.kr_exec.specs.Interpreters.{Running}
 use Rattle.kr_exec.specs.declared.plan.ExecPlan.{ExecPlan}

@@ -7,14 +7,14 @@ use Rattle.elf_read.specs.pr_base.declared.errno.Errno.TheVariants.{E2BIG, ENOEX
 use Rattle.elf_read.specs.Plans.{plan_of}
 use Rattle.elf_read.specs.Rules.{first_broken}
 use Rattle.elf_read.specs.declared.fault.ElfFault.{ElfFault}
-use Rattle.kr_view.specs.kr_tree.declared.place.Host.{Host}
-use Rattle.kr_view.specs.kr_tree.declared.place.Host.TheVariants.{Node, Proc}
-use Rattle.kr_view.specs.kr_tree.declared.place.Place.{Place}
-use Rattle.kr_view.specs.kr_tree.Tree.{Tree}
-use Rattle.kr_view.specs.declared.target.Target.{Target}
-use Rattle.kr_view.specs.declared.target.Reach.{Reach}
-use Rattle.kr_view.specs.Component.{Surroundings}
-use Rattle.kr_view.specs.View.{Row, source}
+use Rattle.kr_walk.specs.kr_tree.declared.place.Host.{Host}
+use Rattle.kr_walk.specs.kr_tree.declared.place.Host.TheVariants.{Node, Proc}
+use Rattle.kr_walk.specs.kr_tree.declared.place.Place.{Place}
+use Rattle.kr_walk.specs.kr_tree.Tree.{Tree}
+use Rattle.kr_walk.specs.kr_view.declared.target.Target.{Target}
+use Rattle.kr_walk.specs.kr_view.declared.target.Reach.{Reach}
+use Rattle.kr_walk.specs.kr_view.Component.{Surroundings}
+use Rattle.kr_walk.specs.kr_view.View.{Row, source}
 use Rattle.kr_calls.specs.Expansion.{Expanded, bytes_with_ends, is_too_big, expanded, most_scripts}
 use Rattle.kr_exec.specs.Interpreters.{bytes_at, programs, interpreters, walks_reach}
 use Rattle.kr_exec.specs.declared.plan.ExecPlan.{ExecPlan}

@@ -5,15 +5,15 @@ use Rattle.std.specs.Option.{option_map, option_map_or}
 use Rattle.elf_read.specs.pr_base.declared.errno.Errno.{Errno}
 use Rattle.elf_read.specs.pr_base.declared.errno.Errno.TheVariants.{EACCES}
 use Rattle.elf_read.specs.pr_base.declared.path.WalkMode.TheVariants.{Look}
-use Rattle.kr_view.specs.kr_inode.declared.user.User.{User}
-use Rattle.kr_view.specs.kr_inode.declared.user.Right.TheVariants.{Search}
-use Rattle.kr_view.specs.kr_tree.declared.place.Host.{Host}
-use Rattle.kr_view.specs.kr_tree.declared.place.Host.TheVariants.{Node, Proc}
-use Rattle.kr_view.specs.kr_tree.declared.place.Place.{Place}
-use Rattle.kr_view.specs.kr_tree.Tree.{Tree, body_is, is_file}
-use Rattle.kr_view.specs.kr_tree.Rights.{may}
-use Rattle.kr_view.specs.Component.{Surroundings}
-use Rattle.kr_view.specs.Walk.{PlaceTarget, PlaceTrail, place_walk}
+use Rattle.kr_walk.specs.kr_inode.declared.user.User.{User}
+use Rattle.kr_walk.specs.kr_inode.declared.user.Right.TheVariants.{Search}
+use Rattle.kr_walk.specs.kr_tree.declared.place.Host.{Host}
+use Rattle.kr_walk.specs.kr_tree.declared.place.Host.TheVariants.{Node, Proc}
+use Rattle.kr_walk.specs.kr_tree.declared.place.Place.{Place}
+use Rattle.kr_walk.specs.kr_tree.Tree.{Tree, body_is, is_file}
+use Rattle.kr_walk.specs.kr_tree.Rights.{may}
+use Rattle.kr_walk.specs.kr_view.Component.{Surroundings}
+use Rattle.kr_walk.specs.kr_view.Walk.{PlaceTarget, PlaceTrail, place_walk}
 
 -- a regular file that the user may execute. To execute a file is the right to search a directory; nothing in the
 -- process directory is a file

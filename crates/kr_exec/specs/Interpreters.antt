@@ -5,16 +5,16 @@ use Rattle.std.specs.Option.{option_and_then, option_map_or}
 use Rattle.elf_read.specs.pr_base.declared.errno.Errno.{Errno}
 use Rattle.elf_read.specs.pr_base.declared.errno.Errno.TheVariants.{E2BIG, ENOEXEC}
 use Rattle.elf_read.specs.pr_base.declared.path.WalkMode.TheVariants.{Look}
-use Rattle.kr_view.specs.kr_tree.declared.place.Host.{Host}
-use Rattle.kr_view.specs.kr_tree.declared.place.Host.TheVariants.{Node, Proc}
-use Rattle.kr_view.specs.kr_tree.declared.place.Place.{Place}
-use Rattle.kr_view.specs.kr_tree.Tree.{Tree, body, file_of}
-use Rattle.kr_view.specs.declared.target.Target.{Target}
-use Rattle.kr_view.specs.declared.target.Reach.{Reach}
-use Rattle.kr_view.specs.Answers.{told}
-use Rattle.kr_view.specs.Component.{Surroundings}
-use Rattle.kr_view.specs.Reach.{reach_after}
-use Rattle.kr_view.specs.Walk.{PlaceTarget}
+use Rattle.kr_walk.specs.kr_tree.declared.place.Host.{Host}
+use Rattle.kr_walk.specs.kr_tree.declared.place.Host.TheVariants.{Node, Proc}
+use Rattle.kr_walk.specs.kr_tree.declared.place.Place.{Place}
+use Rattle.kr_walk.specs.kr_tree.Tree.{Tree, body, file_of}
+use Rattle.kr_walk.specs.kr_view.declared.target.Target.{Target}
+use Rattle.kr_walk.specs.kr_view.declared.target.Reach.{Reach}
+use Rattle.kr_walk.specs.kr_view.Answers.{told}
+use Rattle.kr_walk.specs.kr_view.Component.{Surroundings}
+use Rattle.kr_walk.specs.kr_view.Reach.{reach_after}
+use Rattle.kr_walk.specs.kr_view.Walk.{PlaceTarget}
 use Rattle.kr_calls.specs.Expansion.{Expanded, Finding, expanded, is_script, is_too_big, new_args}
 use Rattle.kr_calls.specs.Scripts.{script_of}
 use Rattle.kr_exec.specs.Finding.{found_host, program_at, program_walk}

@@ -1,5 +1,5 @@
-//! The crates below, by which those above name them.
+//! What those above name of the crates below.
+
 pub use kr_calls;
-pub use kr_view;
-pub use kr_view::below::kr_tree;
 pub use kr_walk;
+pub use kr_walk::below::Place;

@@ -1,14 +1,13 @@
 //! Finding the file that execve(2) runs.
 ghost use Rattle.std.specs.Prelude.{◌≡◌, true, IfOk};
 ghost use Rattle.elf_read.specs.pr_base.declared.path.WalkMode.TheVariants.{Look};
-ghost use Rattle.kr_view.specs.Answers.{IsAnswer, IsReached};
-ghost use Rattle.kr_view.specs.Leads.{numbered};
-ghost use Rattle.kr_view.specs.Walk.{surroundings};
+ghost use Rattle.kr_walk.specs.kr_view.Answers.{IsAnswer, IsReached};
+ghost use Rattle.kr_walk.specs.kr_view.Leads.{numbered};
+ghost use Rattle.kr_walk.specs.kr_view.Walk.{surroundings};
 ghost use Rattle.kr_exec.specs.Finding.{is_program, is_program_found, program_at, program_walk};
 
 use elf_read::below::pr_base::{Errno, WalkMode};
-use kr_view::below::kr_tree::{Host, Place, Right, Tree, User};
-use kr_view::{Places, Procs, Reach, Target, WalkFault};
+use kr_walk::below::{Host, Place, Places, Procs, Reach, Right, Target, Tree, User, WalkFault};
 use kr_walk::resolve;
 use std::alloc::Global;
 

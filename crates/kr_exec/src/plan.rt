@@ -1,11 +1,11 @@
 //! What a new program comes to before it is loaded.
 ghost use Rattle.std.specs.Prelude.{◌≡◌, false, true, IfOk, Some};
 ghost use Rattle.std.specs.Option.{option_map_or};
-ghost use Rattle.kr_view.specs.kr_tree.declared.place.Host.TheVariants.{Node};
-ghost use Rattle.kr_view.specs.Answers.{target_numbered};
-ghost use Rattle.kr_view.specs.Leads.{numbered};
-ghost use Rattle.kr_view.specs.View.{source};
-ghost use Rattle.kr_view.specs.Walk.{surroundings};
+ghost use Rattle.kr_walk.specs.kr_tree.declared.place.Host.TheVariants.{Node};
+ghost use Rattle.kr_walk.specs.kr_view.Answers.{target_numbered};
+ghost use Rattle.kr_walk.specs.kr_view.Leads.{numbered};
+ghost use Rattle.kr_walk.specs.kr_view.View.{source};
+ghost use Rattle.kr_walk.specs.kr_view.Walk.{surroundings};
 ghost use Rattle.kr_exec.specs.Answers.{plan_numbered, Answers, Reaches};
 ghost use Rattle.kr_exec.specs.Exec.{are_too_big, exec_plan, exec_reach, inode_at, target_plan};
 ghost use Rattle.kr_exec.specs.Finding.{is_program, is_program_found};
@@ -15,8 +15,7 @@ use crate::lists::Lists;
 use crate::scripts::{Command, Search, file_bytes};
 use elf_read::below::pr_base::{Bytes, Errno, NoMemory, Texts};
 use elf_read::{Plan, check};
-use kr_view::below::kr_tree::{Host, Ino, Place, Tree, User};
-use kr_view::{Places, Procs, Reach, Target, WalkFault};
+use kr_walk::below::{Host, Ino, Place, Places, Procs, Reach, Target, Tree, User, WalkFault};
 use std::alloc::Global;
 
 /// A program that can be loaded: its file with the place where it was found, the directory and name that the executable

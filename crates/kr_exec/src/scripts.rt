@@ -1,8 +1,8 @@
 //! Scripts: files whose first line names the program that runs them.
 ghost use Rattle.std.specs.Prelude.{◌≡◌, ◌≤◌, length, false, true, IfOk};
 ghost use Rattle.elf_read.specs.pr_base.declared.path.WalkMode.TheVariants.{Look};
-ghost use Rattle.kr_view.specs.Answers.{target_numbered, IsReached};
-ghost use Rattle.kr_view.specs.Leads.{numbered};
+ghost use Rattle.kr_walk.specs.kr_view.Answers.{target_numbered, IsReached};
+ghost use Rattle.kr_walk.specs.kr_view.Leads.{numbered};
 ghost use Rattle.kr_calls.specs.Expansion.{is_script, is_too_big, most_scripts, new_args};
 ghost use Rattle.kr_calls.specs.Scripts.{script_of, BeginsScript};
 ghost use Rattle.kr_exec.specs.Answers.{around_of, running, Answers, IsExpanded, Reaches};
@@ -13,8 +13,7 @@ use crate::find::find_exec;
 use crate::limits::is_too_big;
 use elf_read::below::pr_base::{Bytes, Errno, NoMemory, Texts};
 use kr_calls::script_line;
-use kr_view::below::kr_tree::{Host, Place, Tree, User};
-use kr_view::{Places, Procs, Reach, Target, WalkFault};
+use kr_walk::below::{Host, Place, Places, Procs, Reach, Target, Tree, User, WalkFault};
 use std::alloc::Global;
 
 /// The most scripts that are expanded, one after the other.

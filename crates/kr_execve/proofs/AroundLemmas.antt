@@ -17,8 +17,8 @@ use Rattle.kr_perform.specs.kr_model.Applied.{with_image, with_living}
 use Rattle.kr_perform.specs.kr_model.ProcessDirectory.{around_of, jump_to, lead_of_open, leads_of, space_of}
 use Rattle.kr_perform.specs.kr_model.State.{Image, Process, State, at_pid, opened, process}
 use Rattle.kr_perform.proofs.law_lawful.ProcessChangeLemmas.{found, same-mapped}
-use Rattle.kr_seen.specs.Numbered.{process_numbered, state_numbered}
-use Rattle.kr_seen.specs.Carrying.{with_memory, with_memory_of}
+use Rattle.kr_perform.specs.kr_seen.Numbered.{process_numbered, state_numbered}
+use Rattle.kr_perform.specs.kr_seen.Carrying.{with_memory, with_memory_of}
 
 module _ (pid : ℕ) (memory : Memory) where
   abbrev own : {T : Type 0} → Process T Image → Process T Image

@@ -1,9 +1,9 @@
 -- An execve's path is walked as the path of any call: an absolute one from the root, another from the working directory.
 use Rattle.std.proofs.Common.{◌≡◌, ℕ, Bool, true, false, cond, List, Some, refl}
 use Rattle.std.specs.Prelude.{negsuc}
-use Rattle.kr_seen.specs.pr_base.Paths.{components_of, has_slash, is_absolute}
-use Rattle.kr_seen.specs.pr_base.WalkFrame.{most_links, walk_on}
-use Rattle.kr_seen.specs.pr_base.declared.path.WalkMode.TheVariants.{Look}
+use Rattle.elf_load.specs.pr_base.Paths.{components_of, has_slash, is_absolute}
+use Rattle.elf_load.specs.pr_base.WalkFrame.{most_links, walk_on}
+use Rattle.elf_load.specs.pr_base.declared.path.WalkMode.TheVariants.{Look}
 use Rattle.kr_exec.specs.kr_tree.declared.place.Place.{Place}
 use Rattle.kr_exec.specs.kr_view.View.{Row, root_place}
 use Rattle.kr_exec.specs.kr_view.Walk.{looking, place_walk}

@@ -4,9 +4,9 @@ use Rattle.std.proofs.Common.{◌≡◌, ℕ, Bool, true, false, cond, List, [],
 use Rattle.std.specs.Prelude.{Result, Ok, Err, IsSome, map as map_list, sum}
 use Rattle.std.specs.Option.{option_map, option_map_or}
 use Rattle.std.proofs.lemmas.Option.{same_Some}
-use Rattle.kr_seen.specs.pr_base.declared.errno.Errno.{Errno}
-use Rattle.kr_seen.specs.pr_base.declared.errno.Errno.TheVariants.{ENOMEM}
-use Rattle.kr_seen.specs.pr_base.declared.path.WalkMode.TheVariants.{Look}
+use Rattle.elf_load.specs.pr_base.declared.errno.Errno.{Errno}
+use Rattle.elf_load.specs.pr_base.declared.errno.Errno.TheVariants.{ENOMEM}
+use Rattle.elf_load.specs.pr_base.declared.path.WalkMode.TheVariants.{Look}
 use Rattle.elf_load.specs.rv_mem.Memory.{Memory}
 use Rattle.elf_load.specs.Image.{image_exceeds}
 use Rattle.kr_exec.specs.kr_tree.declared.place.Host.TheVariants.{Node}
@@ -35,17 +35,17 @@ use Rattle.kr_perform.specs.kr_model.State.{image_layout, process}
 use Rattle.kr_perform.specs.kr_model.Walks as results
 use Rattle.kr_perform.specs.law_allowed.Told.{SourcesAreNamed}
 use Rattle.kr_perform.proofs.law_allowed.RowLemmas.{lawful-memory, stays-like}
-use Rattle.kr_seen.specs.kr_ops.declared.state.State.{State}
-use Rattle.kr_seen.specs.kr_ops.Meaning.{meaning}
-use Rattle.kr_seen.specs.kr_ops.Sound.{IsServed}
-use Rattle.kr_seen.specs.Carrying.{memory_of, no_memory, with_memory_of}
-use Rattle.kr_seen.proofs.CarryLemmas.{own-memory}
-use Rattle.kr_seen.specs.Numbered.{process_numbered, state_numbered}
-use Rattle.kr_seen.proofs.NumberedLemmas.{process-numbered}
+use Rattle.kr_perform.specs.kr_ops.declared.state.State.{State}
+use Rattle.kr_perform.specs.kr_ops.Meaning.{meaning}
+use Rattle.kr_perform.specs.kr_ops.Sound.{IsServed}
+use Rattle.kr_perform.specs.kr_seen.Carrying.{memory_of, no_memory, with_memory_of}
+use Rattle.kr_perform.proofs.kr_seen.CarryLemmas.{own-memory}
+use Rattle.kr_perform.specs.kr_seen.Numbered.{process_numbered, state_numbered}
+use Rattle.kr_perform.proofs.kr_seen.NumberedLemmas.{process-numbered}
 use Rattle.kr_perform.proofs.NumberedLemmas.{lawful_numbered}
 use Rattle.kr_perform.proofs.TextLemmas.{text_bytes}
-use Rattle.kr_seen.specs.Using.{HasMemory}
-use Rattle.kr_seen.proofs.UsingLemmas.{memory-is}
+use Rattle.kr_perform.specs.kr_seen.Using.{HasMemory}
+use Rattle.kr_perform.proofs.kr_seen.UsingLemmas.{memory-is}
 use Rattle.kr_exec.specs.Answers.{Answers, Reaches, plan_numbered}
 use Rattle.kr_exec.specs.Exec.{are_too_big, exec_plan, exec_reach}
 use Rattle.kr_exec.specs.Finding.{is_program, program_at, program_walk}

@@ -3,9 +3,9 @@ use Rattle.std.proofs.Common.{◌≡◌, ℕ, suc, List, Option, Some, None, sym
 use Rattle.std.specs.Prelude.{Result, Ok, Err, IsSome}
 use Rattle.std.specs.Option.{option_map, option_map_or}
 use Rattle.std.proofs.lemmas.Option.{none-some, same_Some}
-use Rattle.kr_seen.specs.pr_base.declared.errno.Errno.{Errno}
-use Rattle.kr_seen.specs.pr_base.declared.errno.Errno.TheVariants.{ENOENT}
-use Rattle.kr_seen.specs.pr_base.declared.path.WalkMode.TheVariants.{Look}
+use Rattle.elf_load.specs.pr_base.declared.errno.Errno.{Errno}
+use Rattle.elf_load.specs.pr_base.declared.errno.Errno.TheVariants.{ENOENT}
+use Rattle.elf_load.specs.pr_base.declared.path.WalkMode.TheVariants.{Look}
 use Rattle.elf_load.specs.rv_mem.Actions.{CarriedOut, Done, carried_out}
 use Rattle.elf_load.specs.rv_mem.Memory.{Memory}
 use Rattle.kr_perform.specs.kr_inode.declared.user.User.{User}
@@ -27,13 +27,13 @@ use Rattle.kr_perform.specs.kr_model.State as model
 use Rattle.kr_perform.specs.kr_model.State.{process}
 use Rattle.kr_perform.specs.kr_model.Walks as results
 use Rattle.kr_perform.proofs.law_allowed.RowLemmas.{lawful-memory, stays-like}
-use Rattle.kr_seen.specs.kr_ops.declared.state.State.{State}
-use Rattle.kr_seen.specs.kr_ops.Meaning.{meaning}
-use Rattle.kr_seen.specs.kr_ops.Sound.{IsServed}
-use Rattle.kr_seen.specs.Carrying.{memory_of, no_memory, with_memory_of}
+use Rattle.kr_perform.specs.kr_ops.declared.state.State.{State}
+use Rattle.kr_perform.specs.kr_ops.Meaning.{meaning}
+use Rattle.kr_perform.specs.kr_ops.Sound.{IsServed}
+use Rattle.kr_perform.specs.kr_seen.Carrying.{memory_of, no_memory, with_memory_of}
 use Rattle.kr_perform.specs.Lawful.{LastsLawful}
-use Rattle.kr_seen.specs.Numbered.{process_numbered, state_numbered}
-use Rattle.kr_seen.proofs.NumberedLemmas.{process-numbered}
+use Rattle.kr_perform.specs.kr_seen.Numbered.{process_numbered, state_numbered}
+use Rattle.kr_perform.proofs.kr_seen.NumberedLemmas.{process-numbered}
 use Rattle.kr_exec.specs.Finding.{program_walk}
 use Rattle.kr_exec.specs.Lists.{Trying, and_then, lists_at}
 use Rattle.kr_exec.specs.declared.lists.Lists.{Lists}

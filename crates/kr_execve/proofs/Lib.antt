@@ -1,5 +1,6 @@
 pub use Rattle.elf_load.proofs as elf_load
 pub use Rattle.kr_exec.proofs.kr_view as kr_view
+pub use Rattle.kr_exec.proofs.kr_calls as kr_calls
 pub use Rattle.kr_perform.proofs as kr_perform
 pub use Rattle.kr_exec.proofs as kr_exec
 pub mod AroundLemmas

@@ -15,16 +15,16 @@ use Rattle.kr_exec.specs.kr_tree.Tree.{Tree}
 use Rattle.kr_perform.specs.kr_model.Applied.{with_living, with_program}
 use Rattle.kr_perform.specs.kr_model.Conditions.{CanLoad}
 use Rattle.kr_perform.specs.kr_model.State as model
-use Rattle.kr_seen.specs.kr_ops.declared.state.Process.{Process}
-use Rattle.kr_seen.specs.kr_ops.declared.state.State.{State}
-use Rattle.kr_seen.specs.kr_ops.Living.{HasPid}
-use Rattle.kr_seen.specs.kr_ops.Making.{Makes}
-use Rattle.kr_seen.specs.kr_ops.Meaning.{meaning}
-use Rattle.kr_seen.specs.kr_ops.Sound.{IsServed, IsSound}
-use Rattle.kr_seen.proofs.kr_ops.ChangeLemmas.{one-changed}
-use Rattle.kr_seen.proofs.kr_ops.OpeningLemmas.{found}
-use Rattle.kr_seen.proofs.kr_ops.PageLemmas.{counted-in, room-changed}
-use Rattle.kr_seen.proofs.kr_ops.ServeLemmas.{kept-names}
+use Rattle.kr_perform.specs.kr_ops.declared.state.Process.{Process}
+use Rattle.kr_perform.specs.kr_ops.declared.state.State.{State}
+use Rattle.kr_perform.specs.kr_ops.Living.{HasPid}
+use Rattle.kr_perform.specs.kr_ops.Making.{Makes}
+use Rattle.kr_perform.specs.kr_ops.Meaning.{meaning}
+use Rattle.kr_perform.specs.kr_ops.Sound.{IsServed, IsSound}
+use Rattle.kr_perform.proofs.kr_ops.ChangeLemmas.{one-changed}
+use Rattle.kr_perform.proofs.kr_ops.OpeningLemmas.{found}
+use Rattle.kr_perform.proofs.kr_ops.PageLemmas.{counted-in, room-changed}
+use Rattle.kr_perform.proofs.kr_ops.ServeLemmas.{kept-names}
 use Rattle.kr_exec.specs.Interpreters.{bytes_at}
 use Rattle.kr_exec.specs.declared.plan.ExecPlan.{ExecPlan}
 use Rattle.kr_execve.specs.Execution.{exceeds, ids_of, image_of}

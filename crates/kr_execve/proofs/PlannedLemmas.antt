@@ -1,8 +1,8 @@
 -- What is known of a file that was planned: it was found as all interpreters are, and it breaks no rule of ELF files.
 use Rattle.std.proofs.Common.{◌≡◌, ℕ, zero, suc, Bool, true, false, cond, List, Option, Some, None, refl, subst}
 use Rattle.std.specs.Prelude.{Result, Ok, Err}
-use Rattle.kr_seen.specs.pr_base.declared.errno.Errno.{Errno}
-use Rattle.kr_seen.specs.pr_base.declared.errno.Errno.TheVariants.{E2BIG, ELOOP}
+use Rattle.elf_load.specs.pr_base.declared.errno.Errno.{Errno}
+use Rattle.elf_load.specs.pr_base.declared.errno.Errno.TheVariants.{E2BIG, ELOOP}
 use Rattle.elf_load.specs.elf_read.Plans.{plan_of}
 use Rattle.elf_load.specs.elf_read.Rules.{first_broken}
 use Rattle.elf_load.specs.elf_read.declared.fault.ElfFault.{ElfFault}

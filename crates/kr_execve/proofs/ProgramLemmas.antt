@@ -5,9 +5,9 @@ use Rattle.std.specs.Prelude.{Result, Ok, Err, ◌&&◌}
 use Rattle.std.specs.List.{All}
 use Rattle.std.specs.Option.{option_map_or}
 use Rattle.std.proofs.lemmas.Bool.{false≢true}
-use Rattle.kr_seen.specs.pr_base.declared.errno.Errno.{Errno}
-use Rattle.kr_seen.specs.pr_base.declared.errno.Errno.TheVariants.{EACCES}
-use Rattle.kr_seen.specs.pr_base.declared.path.WalkMode.TheVariants.{Look}
+use Rattle.elf_load.specs.pr_base.declared.errno.Errno.{Errno}
+use Rattle.elf_load.specs.pr_base.declared.errno.Errno.TheVariants.{EACCES}
+use Rattle.elf_load.specs.pr_base.declared.path.WalkMode.TheVariants.{Look}
 use Rattle.kr_perform.specs.kr_inode.declared.user.User.{User}
 use Rattle.kr_perform.specs.kr_inode.declared.user.Right.TheVariants.{Search}
 use Rattle.kr_exec.specs.kr_tree.declared.place.Host.{Host}

@@ -2,21 +2,21 @@
 use Rattle.std.proofs.Common.{◌≡◌, ℕ, get_or, sym, ap, subst, ◌∙◌}
 use Rattle.std.specs.Prelude.{Result, Ok, Err, IsSome}
 use Rattle.std.specs.Vec.{with_item}
-use Rattle.kr_seen.specs.pr_base.declared.errno.Errno.{Errno}
+use Rattle.elf_load.specs.pr_base.declared.errno.Errno.{Errno}
 use Rattle.elf_load.specs.rv_mem.Layout.{layout_of}
 use Rattle.elf_load.specs.rv_mem.Memory.{Memory}
 use Rattle.kr_exec.specs.kr_view.declared.target.WalkFault.TheVariants as fault
 use Rattle.kr_exec.specs.kr_calls.declared.fault.CallFault.TheVariants as call
 use Rattle.kr_perform.specs.kr_model.State as model
-use Rattle.kr_seen.specs.kr_ops.declared.state.Process.{Process}
-use Rattle.kr_seen.specs.kr_ops.declared.state.State.{State}
-use Rattle.kr_seen.specs.kr_ops.Living.{HasPid}
-use Rattle.kr_seen.specs.kr_ops.Meaning.{meaning}
-use Rattle.kr_seen.specs.kr_ops.Sound.{IsSound}
-use Rattle.kr_seen.proofs.kr_ops.PageLemmas.{with_mem}
-use Rattle.kr_seen.specs.Carrying.{memory_of}
-use Rattle.kr_seen.specs.Using.{HasMemory}
-use Rattle.kr_seen.proofs.UsingLemmas.{has-now, memory-at}
+use Rattle.kr_perform.specs.kr_ops.declared.state.Process.{Process}
+use Rattle.kr_perform.specs.kr_ops.declared.state.State.{State}
+use Rattle.kr_perform.specs.kr_ops.Living.{HasPid}
+use Rattle.kr_perform.specs.kr_ops.Meaning.{meaning}
+use Rattle.kr_perform.specs.kr_ops.Sound.{IsSound}
+use Rattle.kr_perform.proofs.kr_ops.PageLemmas.{with_mem}
+use Rattle.kr_perform.specs.kr_seen.Carrying.{memory_of}
+use Rattle.kr_perform.specs.kr_seen.Using.{HasMemory}
+use Rattle.kr_perform.proofs.kr_seen.UsingLemmas.{has-now, memory-at}
 use Rattle.kr_exec.specs.Lists.{Reads}
 use Rattle.kr_exec.specs.declared.lists.Lists.{Lists}
 use Rattle.kr_execve.specs.Executing.{ReadsLists, lists_in}

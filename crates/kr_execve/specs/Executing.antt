@@ -1,8 +1,8 @@
 -- What the code leaves of a state where a process called execve(2), and what its steps leave.
 use Rattle.std.specs.Prelude.{◌≡◌, ◌≢◌, ◌+◌, ℕ, suc, Bool, true, false, List, [], ◌∷◌, Some, None, Result, Ok, Err, IsSome}
 use Rattle.std.specs.Option.{option_map}
-use Rattle.kr_seen.specs.pr_base.declared.errno.Errno.{Errno}
-use Rattle.kr_seen.specs.pr_base.declared.errno.Errno.TheVariants.{ENOMEM}
+use Rattle.elf_load.specs.pr_base.declared.errno.Errno.{Errno}
+use Rattle.elf_load.specs.pr_base.declared.errno.Errno.TheVariants.{ENOMEM}
 use Rattle.elf_load.specs.rv_mem.Actions.{CarriedOut, carried_out}
 use Rattle.elf_load.specs.elf_read.Plans.{plan_of}
 use Rattle.elf_load.specs.elf_read.Rules.{first_broken}
@@ -24,14 +24,14 @@ use Rattle.kr_perform.specs.kr_model.Conditions.{CanLoad, OfCaller}
 use Rattle.kr_perform.specs.kr_model.Lawful.{IsLawful, IsNameOrNone, is_file_at}
 use Rattle.kr_perform.specs.kr_model.State as model
 use Rattle.kr_perform.specs.kr_model.State.{process}
-use Rattle.kr_seen.specs.kr_ops.declared.state.State.{State}
-use Rattle.kr_seen.specs.kr_ops.Making.{Makes}
-use Rattle.kr_seen.specs.kr_ops.Meaning.{meaning}
-use Rattle.kr_seen.specs.kr_ops.Sound.{IsServed}
-use Rattle.kr_seen.specs.Carrying.{memory_of}
+use Rattle.kr_perform.specs.kr_ops.declared.state.State.{State}
+use Rattle.kr_perform.specs.kr_ops.Making.{Makes}
+use Rattle.kr_perform.specs.kr_ops.Meaning.{meaning}
+use Rattle.kr_perform.specs.kr_ops.Sound.{IsServed}
+use Rattle.kr_perform.specs.kr_seen.Carrying.{memory_of}
 use Rattle.kr_perform.specs.Lawful.{LastsLawful}
-use Rattle.kr_seen.specs.Using.{HasMemory}
-use Rattle.kr_seen.specs.Numbered.{state_numbered}
+use Rattle.kr_perform.specs.kr_seen.Using.{HasMemory}
+use Rattle.kr_perform.specs.kr_seen.Numbered.{state_numbered}
 use Rattle.kr_exec.specs.Exec.{are_too_big}
 use Rattle.kr_exec.specs.Interpreters.{bytes_at}
 use Rattle.kr_exec.specs.Lists.{lists_at}

@@ -2,9 +2,9 @@
 -- comes first, then EACCES, the lists, the scripts and the rules on ELF files, and ENOMEM last.
 use Rattle.std.specs.Prelude.{ℕ, Bool, List, [], ◌∷◌, Option, Some, None, Result, Ok, Err, if◌then◌else◌}
 use Rattle.std.specs.Option.{option_map_or}
-use Rattle.kr_seen.specs.pr_base.declared.errno.Errno.{Errno}
-use Rattle.kr_seen.specs.pr_base.declared.errno.Errno.TheVariants.{ENOENT, ENOMEM}
-use Rattle.kr_seen.specs.pr_base.declared.path.WalkMode.TheVariants.{Look}
+use Rattle.elf_load.specs.pr_base.declared.errno.Errno.{Errno}
+use Rattle.elf_load.specs.pr_base.declared.errno.Errno.TheVariants.{ENOENT, ENOMEM}
+use Rattle.elf_load.specs.pr_base.declared.path.WalkMode.TheVariants.{Look}
 use Rattle.elf_load.specs.rv_mem.Actions.{CarriedOut, Done, carried_out}
 use Rattle.elf_load.specs.rv_mem.Memory.{Memory}
 use Rattle.elf_load.specs.Image.{first_regs, image_exceeds, image_memory, program_break}
@@ -22,7 +22,7 @@ use Rattle.kr_perform.specs.kr_model.Known.{pages_in_all}
 use Rattle.kr_perform.specs.kr_model.ProcessDirectory.{around_of}
 use Rattle.kr_perform.specs.kr_model.State.{Image, State, image_layout}
 use Rattle.kr_perform.specs.kr_model.Walks as results
-use Rattle.kr_seen.specs.Carrying.{with_memory_of}
+use Rattle.kr_perform.specs.kr_seen.Carrying.{with_memory_of}
 use Rattle.kr_exec.specs.Exec.{exec_plan, exec_reach}
 use Rattle.kr_exec.specs.Finding.{program_at, program_walk}
 use Rattle.kr_exec.specs.Interpreters.{bytes_at}

@@ -2,15 +2,14 @@
 ghost use Rattle.kr_perform.specs.law_allowed.Told.{SourcesAreNamed};
 ghost use Rattle.kr_execve.specs.Executing.{told_of, Leaves};
 ghost use Rattle.kr_perform.specs.law_allowed.Texts.{IsText, LinksHaveTexts};
-ghost use Rattle.kr_seen.specs.kr_ops.Sound.{IsLawfulFor};
+ghost use Rattle.kr_perform.specs.kr_ops.Sound.{IsLawfulFor};
 ghost use Rattle.kr_exec.specs.kr_tree.Lawful.{AreBytes};
 
 use crate::finding::{cwd_of, find, plan};
 use crate::loading::put;
 use crate::marks::marks_read;
 use crate::reading::read;
-use kr_exec::below::kr_view::{Places, Reach, WalkFault};
-use kr_seen::below::{Errno, State, lawful_states_are_sound};
+use kr_perform::below::{Errno, Places, Reach, State, WalkFault, lawful_states_are_sound};
 use std::alloc::Global;
 
 /// What became of an execve.

@@ -1,23 +1,20 @@
 //! The file of a new program, and its plan, over the state of a kernel.
 ghost use Rattle.std.specs.Prelude.{◌≡◌, false, true, IfOk, Some};
-ghost use Rattle.kr_seen.specs.pr_base.declared.path.WalkMode.TheVariants.{Look};
+ghost use Rattle.elf_load.specs.pr_base.declared.path.WalkMode.TheVariants.{Look};
 ghost use Rattle.kr_exec.specs.Answers.{plan_numbered, Answers, Reaches};
 ghost use Rattle.kr_exec.specs.Exec.{are_too_big, exec_plan, exec_reach};
 ghost use Rattle.kr_exec.specs.Finding.{is_program, is_program_found, program_at, program_walk};
 ghost use Rattle.kr_perform.specs.kr_model.Applied.{cwd_of};
 ghost use Rattle.kr_perform.specs.kr_model.ProcessDirectory.{around_of};
-ghost use Rattle.kr_seen.specs.kr_ops.Meaning.{meaning};
-ghost use Rattle.kr_seen.specs.kr_ops.Sound.{IsLawfulIn, IsSoundFor};
-ghost use Rattle.kr_seen.specs.Numbered.{state_numbered};
+ghost use Rattle.kr_perform.specs.kr_ops.Meaning.{meaning};
+ghost use Rattle.kr_perform.specs.kr_ops.Sound.{IsLawfulIn, IsSoundFor};
+ghost use Rattle.kr_perform.specs.kr_seen.Numbered.{state_numbered};
 ghost use Rattle.kr_exec.specs.kr_tree.declared.place.Host.TheVariants.{Node};
 ghost use Rattle.kr_exec.specs.kr_view.Answers.{target_numbered, IsAnswer, IsReached};
 ghost use Rattle.kr_exec.specs.kr_view.Leads.{numbered};
 
-use kr_exec::below::kr_tree::Place;
-use kr_exec::below::kr_view::{Places, Reach, Target, WalkFault};
 use kr_exec::{ExecPlan, Lists, find_exec, plan_exec};
-use kr_seen::below::State;
-use kr_seen::procs;
+use kr_perform::below::{Place, Places, Reach, State, Target, WalkFault, procs};
 use std::alloc::Global;
 
 /// The working directory of a living process.

@@ -5,7 +5,7 @@ ghost use Rattle.kr_exec.specs.Interpreters.{bytes_at};
 ghost use Rattle.kr_execve.specs.Execution.{ids_of, image_of};
 ghost use Rattle.kr_execve.specs.Executing.{Gives, IsLoadable, IsReadyFor, Loads, Puts};
 ghost use Rattle.kr_perform.specs.kr_model.State.{process};
-ghost use Rattle.kr_seen.specs.kr_ops.Sound.{IsSoundFor};
+ghost use Rattle.kr_perform.specs.kr_ops.Sound.{IsSoundFor};
 ghost use Rattle.kr_exec.specs.kr_tree.declared.place.Host.TheVariants.{Node};
 ghost use Rattle.elf_load.specs.rv_mem.Memory.{page_count};
 ghost use Rattle.elf_load.specs.rv_mem.Pages.{IsPlaced, IsWhole};
@@ -13,9 +13,7 @@ ghost use Rattle.elf_load.specs.rv_mem.Pages.{IsPlaced, IsWhole};
 use elf_load::below::rv_mem::{ALL_PAGES, Room, Use};
 use elf_load::{Image, LoadFault, load};
 use kr_exec::ExecPlan;
-use kr_exec::below::kr_tree::{Ino, Tree, User};
-use kr_exec::below::kr_view::WalkFault;
-use kr_seen::below::{Errno, State, lawful_states_are_sound};
+use kr_perform::below::{Errno, Ino, State, Tree, User, WalkFault, lawful_states_are_sound};
 use std::alloc::Global;
 
 /// The bytes of a file; none of what is none.

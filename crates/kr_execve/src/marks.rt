@@ -1,10 +1,10 @@
 //! Marked bytes that were read.
 ghost use Rattle.std.specs.Prelude.{◌≡◌};
-ghost use Rattle.kr_seen.specs.Carrying.{memory_of};
-ghost use Rattle.kr_seen.specs.kr_ops.Meaning.{meaning};
-ghost use Rattle.kr_seen.specs.kr_ops.Sound.{IsSound};
+ghost use Rattle.kr_perform.specs.kr_seen.Carrying.{memory_of};
+ghost use Rattle.kr_perform.specs.kr_ops.Meaning.{meaning};
+ghost use Rattle.kr_perform.specs.kr_ops.Sound.{IsSound};
 
-use kr_seen::below::State;
+use kr_perform::below::State;
 
 /// Whether a marked byte of the memory of a process was read so far; none was of one that doesn't live.
 pub fn marks_read<T: Copy, const M: u8>(state: &State<T, M>, pid: u32) -> bool

@@ -1,12 +1,11 @@
 //! The lists of texts that a call hands over.
 ghost use Rattle.std.specs.Prelude.{◌≡◌};
 ghost use Rattle.kr_execve.specs.Executing.{ReadsLists};
-ghost use Rattle.kr_seen.specs.kr_ops.Sound.{IsSoundFor};
+ghost use Rattle.kr_perform.specs.kr_ops.Sound.{IsSoundFor};
 
 use kr_exec::below::kr_calls::CallFault;
-use kr_exec::below::kr_view::WalkFault;
 use kr_exec::{Lists, read_lists};
-use kr_seen::below::State;
+use kr_perform::below::{State, WalkFault};
 use std::alloc::Global;
 
 /// Reads the lists at two addresses in the memory of a living process.

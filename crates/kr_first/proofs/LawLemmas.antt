@@ -1,6 +1,6 @@
 -- Slashes lead to the root, which is a directory.
 use Rattle.std.proofs.Common.{cond, Some, None, ap, ◌∙◌}
-use Rattle.pr_base.specs.declared.path.WalkMode.TheVariants.{Look}
+use Rattle.kr_start.specs.pr_base.declared.path.WalkMode.TheVariants.{Look}
 use Rattle.kr_execve.specs.kr_view.View.{root_place}
 use Rattle.kr_execve.specs.kr_view.Walk.{PlaceTrail}
 use Rattle.kr_execve.proofs.kr_view.DirectoryLemmas.{slashes_end}

@@ -1,4 +1,4 @@
-pub use Rattle.pr_base.proofs as pr_base
+pub use Rattle.kr_start.proofs.pr_base as pr_base
 pub use Rattle.kr_start.proofs.rv_mem as rv_mem
 pub use Rattle.kr_start.proofs.elf_load as elf_load
 pub use Rattle.kr_start.proofs.kr_tree as kr_tree

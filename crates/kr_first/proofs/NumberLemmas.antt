@@ -2,7 +2,7 @@
 use Rattle.std.specs.FinMap as map
 use Rattle.std.proofs.Common.{◌≡◌, ℕ, ◌+◌, Bool, true, false, List, ap, ◌∙◌}
 use Rattle.std.specs.Ordering.{nat_cmp}
-use Rattle.pr_base.proofs.MapLemmas.{mapped-empty, mapped-insert}
+use Rattle.kr_start.proofs.pr_base.MapLemmas.{mapped-empty, mapped-insert}
 use Rattle.kr_start.specs.kr_inode.declared.user.User.{User}
 use Rattle.kr_start.specs.kr_tree.Tree.{Tree}
 use Rattle.kr_execve.specs.kr_view.Leads.{numbered}

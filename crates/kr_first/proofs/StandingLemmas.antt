@@ -5,8 +5,8 @@ use Rattle.std.specs.Prelude.{IfOk, Result, Ok, Err}
 use Rattle.std.specs.List.{All}
 use Rattle.std.specs.Option.{option_and_then, option_map, option_map_or}
 use Rattle.std.proofs.lemmas.Option.{same_Some}
-use Rattle.pr_base.specs.declared.errno.Errno.{Errno}
-use Rattle.pr_base.specs.declared.path.WalkMode.TheVariants.{Look}
+use Rattle.kr_start.specs.pr_base.declared.errno.Errno.{Errno}
+use Rattle.kr_start.specs.pr_base.declared.path.WalkMode.TheVariants.{Look}
 use Rattle.kr_start.specs.kr_inode.declared.user.User.{User}
 use Rattle.kr_start.specs.kr_tree.declared.place.Host.TheVariants.{Node}
 use Rattle.kr_start.specs.kr_tree.declared.place.Place.{Place}

@@ -1,6 +1,6 @@
 -- Where a working directory can always be.
 use Rattle.std.specs.Prelude.{◌≡◌, ◌≢◌, ℕ, List, [], Some}
-use Rattle.pr_base.specs.Paths.{components_of}
+use Rattle.kr_start.specs.pr_base.Paths.{components_of}
 use Rattle.kr_start.specs.kr_inode.declared.user.User.{User}
 use Rattle.kr_start.specs.kr_tree.Tree.{Tree}
 use Rattle.kr_execve.specs.kr_view.View.{Row, StandsIn, root_place}

@@ -1,9 +1,10 @@
-pub use Rattle.pr_base.specs as pr_base
+pub use Rattle.kr_start.specs.pr_base as pr_base
 pub use Rattle.kr_start.specs.rv_mem as rv_mem
 pub use Rattle.kr_start.specs.elf_read as elf_read
 pub use Rattle.kr_start.specs.elf_load as elf_load
 pub use Rattle.kr_start.specs.kr_inode as kr_inode
 pub use Rattle.kr_start.specs.kr_tree as kr_tree
+pub use Rattle.kr_start.specs.kr_text as kr_text
 pub use Rattle.kr_execve.specs.kr_view as kr_view
 pub use Rattle.kr_start.specs.kr_mounts as kr_mounts
 pub use Rattle.kr_start.specs.kr_procfs as kr_procfs

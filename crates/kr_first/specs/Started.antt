@@ -2,8 +2,8 @@
 use Rattle.std.specs.Prelude.{◌≡◌, ℕ, true, false, List, Result, Ok, Err, IsSome}
 use Rattle.std.specs.Borrow.{RattleType}
 use Rattle.std.specs.Mem.{FitsInMemory}
-use Rattle.pr_base.specs.declared.errno.Errno.{Errno}
-use Rattle.pr_base.specs.declared.errno.Errno.TheVariants.{ENOMEM}
+use Rattle.kr_start.specs.pr_base.declared.errno.Errno.{Errno}
+use Rattle.kr_start.specs.pr_base.declared.errno.Errno.TheVariants.{ENOMEM}
 use Rattle.kr_start.specs.rv_mem.Memory.{page_count}
 use Rattle.kr_start.specs.elf_load.Image.{program_break}
 use Rattle.kr_start.specs.elf_load.declared.image.Image as loaded

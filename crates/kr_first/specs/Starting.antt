@@ -2,10 +2,10 @@
 -- The walk to the working directory comes first; then the tests of the path, and what execve(2) tests in its order.
 use Rattle.std.specs.Prelude.{ℕ, ◌==◌, Bool, List, length, Option, Some, None, Result, Ok, Err, if◌then◌else◌}
 use Rattle.std.specs.Option.{option_and_then, option_map_or}
-use Rattle.pr_base.specs.declared.errno.Errno.{Errno}
-use Rattle.pr_base.specs.declared.errno.Errno.TheVariants.{ENAMETOOLONG, ENOENT, ENOMEM}
-use Rattle.pr_base.specs.declared.path.WalkMode.TheVariants.{Look}
-pub use Rattle.pr_base.specs.Paths.{is_walked}
+use Rattle.kr_start.specs.pr_base.declared.errno.Errno.{Errno}
+use Rattle.kr_start.specs.pr_base.declared.errno.Errno.TheVariants.{ENAMETOOLONG, ENOENT, ENOMEM}
+use Rattle.kr_start.specs.pr_base.declared.path.WalkMode.TheVariants.{Look}
+pub use Rattle.kr_start.specs.pr_base.Paths.{is_walked}
 use Rattle.kr_start.specs.elf_load.Image.{first_regs, image_exceeds, image_memory, program_break}
 use Rattle.kr_start.specs.kr_inode.declared.user.User.{User}
 use Rattle.kr_start.specs.kr_tree.declared.place.Place.{Place}

@@ -1,7 +1,7 @@
 //! The working directory and the program of the first process, looked for before a process lives.
 ghost use Rattle.std.specs.Prelude.{◌≡◌, ℕ, IfOk, OnOk, true, false};
 ghost use Rattle.std.specs.Option.{option_and_then, option_map};
-ghost use Rattle.pr_base.specs.declared.path.WalkMode.TheVariants.{Look};
+ghost use Rattle.kr_start.specs.pr_base.declared.path.WalkMode.TheVariants.{Look};
 ghost use Rattle.kr_execve.specs.kr_exec.Answers.{plan_numbered, Answers};
 ghost use Rattle.kr_execve.specs.kr_exec.Finding.{is_program};
 ghost use Rattle.kr_execve.specs.Executing.{IsLoadable};
@@ -13,8 +13,7 @@ ghost use Rattle.kr_execve.specs.kr_view.Reach.{reach_after};
 use kr_execve::below::{
     ExecPlan, Lists, NoProcs, Places, Reach, WalkFault, find_exec, plan_exec, resolve,
 };
-use kr_start::below::{Host, Place, ProcAt, Tree, User};
-use pr_base::{Errno, NoMemory, WalkMode, is_walked};
+use kr_start::below::{Errno, Host, NoMemory, Place, ProcAt, Tree, User, WalkMode, is_walked};
 use std::alloc::Global;
 
 /// The number of the first process, in whose name its walks are made.

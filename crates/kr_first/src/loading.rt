@@ -6,8 +6,7 @@ ghost use Rattle.kr_first.specs.Started.{Gives};
 ghost use Rattle.kr_start.specs.kr_tree.declared.place.Host.TheVariants.{Node};
 
 use kr_execve::below::{ExecPlan, WalkFault};
-use kr_start::below::{Image, Ino, LoadFault, Room, Tree, load};
-use pr_base::Errno;
+use kr_start::below::{Errno, Image, Ino, LoadFault, Room, Tree, load};
 use std::alloc::Global;
 
 /// The bytes of a file; none of what is none.

@@ -15,10 +15,9 @@ ghost use Rattle.kr_execve.specs.kr_view.View.{StandsIn};
 use crate::finding::{directory_at, plan};
 use crate::loading::image_of;
 use kr_execve::below::{Lists, Places, Reach, WalkFault};
-use kr_start::below::{Room, State, Tree, User, trees_are_kept};
+use kr_start::below::{Bytes, Errno, NoMemory, Room, State, Texts, Tree, User, trees_are_kept};
 use kr_start::laws::starts_last;
 use kr_start::{begin, idle};
-use pr_base::{Bytes, Errno, NoMemory, Texts};
 use std::alloc::Global;
 
 /// What is asked of a start.

@@ -2,7 +2,7 @@
 use Rattle.std.proofs.Common.{◌≡◌, ℕ, ◌≤◌, ◌^◌, Bool, true, false, List, [], Option, Some, None, refl, sym, ap, ◌∙◌}
 use Rattle.std.specs.Bool.{if◌then◌else◌}
 use Rattle.std.specs.Option.{option_map, option_map_or}
-use Rattle.pr_base.specs.Peeks.{NamesAreTexts}
+use Rattle.kr_seen.specs.pr_base.Peeks.{NamesAreTexts}
 use Rattle.kr_seen.specs.kr_tree.declared.place.Place.{Place}
 use Rattle.kr_seen.specs.kr_tree.declared.place.ProcAt.{ProcAt}
 use Rattle.kr_seen.specs.kr_tree.declared.place.ProcAt.TheVariants.{SelfLink, Dir, Cwd, Root, Exe, FdDir, Fd}

@@ -1,7 +1,7 @@
 -- The host's own view of a state, and what a tracer is told of it, is that of the state with its mounts told by numbers.
 use Rattle.std.proofs.Common.{◌≡◌, ℕ, [], Option, Some, None, refl, sym, ap, ◌∙◌}
 use Rattle.std.specs.Option.{option_map, option_map_or, option_and_then}
-use Rattle.pr_base.specs.declared.path.WalkMode.TheVariants.{LookLink}
+use Rattle.kr_seen.specs.pr_base.declared.path.WalkMode.TheVariants.{LookLink}
 use Rattle.kr_seen.specs.kr_tree.declared.place.Host.{Host}
 use Rattle.kr_seen.specs.kr_tree.declared.place.Host.TheVariants.{Node, Proc}
 use Rattle.kr_seen.specs.kr_tree.declared.place.Place.{Place}

@@ -1,6 +1,6 @@
 -- What peeks are asked of: a state, in the name of a caller, of which all names that are told are texts.
 use Rattle.std.specs.Prelude.{ℕ}
-use Rattle.pr_base.specs.Peeks.{NamesAreTexts}
+use Rattle.kr_seen.specs.pr_base.Peeks.{NamesAreTexts}
 use Rattle.kr_seen.specs.kr_model.Peeks.{peeked_of}
 use Rattle.kr_seen.specs.kr_ops.declared.state.State.{State}
 use Rattle.kr_seen.specs.kr_ops.Meaning.{meaning}

@@ -1,7 +1,7 @@
 -- What the process directory of the host's own view is: that of a kernel with one mount over the same state, whatever its mounts
 -- are.
 use Rattle.std.specs.Prelude.{◌≡◌, ℕ, ◌≤◌, ◌^◌, List}
-use Rattle.pr_base.specs.Peeks.{NamesAreTexts}
+use Rattle.kr_seen.specs.pr_base.Peeks.{NamesAreTexts}
 use Rattle.kr_seen.specs.kr_tree.declared.place.Place.{Place}
 use Rattle.kr_seen.specs.kr_tree.declared.place.ProcAt.{ProcAt}
 use Rattle.kr_seen.specs.kr_view.HostReach.{host_place}

@@ -1,4 +1,5 @@
-pub use Rattle.pr_base.specs as pr_base
+pub use Rattle.kr_seen.specs.pr_base as pr_base
+pub use Rattle.kr_seen.specs.kr_ops as kr_ops
 pub mod Asked
 pub mod Laws
 pub mod NoJumps

@@ -1,8 +1,8 @@
 -- What stands at a steady host path is no link of the process directory. No clause cites this module.
 use Rattle.std.specs.Prelude.{ℕ, List, ◌≡◌, ◌≢◌, true, Ok}
-use Rattle.pr_base.specs.Peeks.{SteadyIsNoJump}
-use Rattle.pr_base.specs.declared.path.WalkMode.TheVariants.{LookLink}
-use Rattle.pr_base.specs.declared.peeks.PeekKind.TheVariants.{Jump}
+use Rattle.kr_seen.specs.pr_base.Peeks.{SteadyIsNoJump}
+use Rattle.kr_seen.specs.pr_base.declared.path.WalkMode.TheVariants.{LookLink}
+use Rattle.kr_seen.specs.pr_base.declared.peeks.PeekKind.TheVariants.{Jump}
 use Rattle.kr_seen.specs.kr_view.Component.{Surroundings}
 use Rattle.kr_seen.specs.kr_model.HostView.{host_around_of}
 use Rattle.kr_seen.specs.kr_model.Peeks.{kind_along, peeked_of, steady_along}

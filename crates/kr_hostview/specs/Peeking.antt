@@ -1,10 +1,10 @@
 -- What the code asks of a state on the way to a peek.
 use Rattle.std.specs.Prelude.{◌≡◌, ℕ, List, Option, None, Result, Ok, Err}
 use Rattle.std.specs.Option.{option_map}
-use Rattle.pr_base.specs.declared.errno.Errno.{Errno}
-use Rattle.pr_base.specs.declared.peeks.PeekFault.{PeekFault}
-use Rattle.pr_base.specs.declared.peeks.PeekFault.TheVariants as fault
-use Rattle.pr_base.specs.declared.peeks.PeekKind.{PeekKind}
+use Rattle.kr_seen.specs.pr_base.declared.errno.Errno.{Errno}
+use Rattle.kr_seen.specs.pr_base.declared.peeks.PeekFault.{PeekFault}
+use Rattle.kr_seen.specs.pr_base.declared.peeks.PeekFault.TheVariants as fault
+use Rattle.kr_seen.specs.pr_base.declared.peeks.PeekKind.{PeekKind}
 use Rattle.kr_seen.specs.kr_tree.declared.place.Host.{Host}
 use Rattle.kr_seen.specs.kr_view.declared.view.HostMount.{HostMount}
 use Rattle.kr_seen.specs.kr_view.Component.{Namespace, seen_at}

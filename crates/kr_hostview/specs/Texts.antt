@@ -2,10 +2,10 @@
 use Rattle.std.proofs.Common.{◌≡◌, ℕ, List, Option, Some, None, IfSome, sym, subst, ◌∙◌}
 use Rattle.std.proofs.Math.Logic.{∥∥₁_elim}
 use Rattle.std.proofs.Props.{props}
-use Rattle.pr_base.specs.Paths.{AreNames, AreParts, text_of}
-use Rattle.pr_base.specs.Peeks.{NamesAreTexts, Peeked}
-use Rattle.pr_base.specs.Texts.{IsText, Text}
-use Rattle.pr_base.proofs.TextLemmas.{texts_are_told_apart}
+use Rattle.kr_seen.specs.pr_base.Paths.{AreNames, AreParts, text_of}
+use Rattle.kr_seen.specs.pr_base.Peeks.{NamesAreTexts, Peeked}
+use Rattle.kr_seen.specs.pr_base.Texts.{IsText, Text}
+use Rattle.kr_seen.specs.kr_inode.GroundLemmas.{texts_are_told_apart}
 
 names-prop : (names : Text) → IsProp (AreNames names)
 names-prop names = hlevel props

@@ -1,13 +1,12 @@
 //! What a tracer may ask of a state.
 ghost use Rattle.std.specs.Prelude.{◌≡◌};
-ghost use Rattle.pr_base.specs.Peeks.{NamesAreTexts};
+ghost use Rattle.kr_seen.specs.pr_base.Peeks.{NamesAreTexts};
 ghost use Rattle.kr_seen.specs.kr_model.Peeks.{peeked_of};
 ghost use Rattle.kr_seen.specs.kr_ops.Meaning.{meaning};
 ghost use Rattle.kr_seen.specs.kr_ops.Sound.{IsOfView};
 
 use crate::peeks;
-use kr_seen::below::State;
-use pr_base::{BaseKind, Bytes, NoMemory, PeekFault, PeekKind, Peeks};
+use kr_seen::below::{BaseKind, Bytes, NoMemory, PeekFault, PeekKind, Peeks, State};
 use std::alloc::Global;
 use std::marker::Model;
 

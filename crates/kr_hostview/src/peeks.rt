@@ -1,8 +1,8 @@
 //! What a kernel tells a tracer of a state, in the name of a caller.
 ghost use Rattle.std.specs.Prelude.{◌≡◌, ℕ, ◌<◌, ◌^◌, [], take, IfOk, Ok, Err};
 ghost use Rattle.std.specs.Option.{option_map};
-ghost use Rattle.pr_base.specs.Peeks.{IsPeeked, NamesAreTexts};
-ghost use Rattle.pr_base.specs.declared.path.WalkMode.TheVariants.{LookLink};
+ghost use Rattle.kr_seen.specs.pr_base.Peeks.{IsPeeked, NamesAreTexts};
+ghost use Rattle.kr_seen.specs.pr_base.declared.path.WalkMode.TheVariants.{LookLink};
 ghost use Rattle.kr_seen.specs.kr_view.Answers.{IsAnswer, IsReached};
 ghost use Rattle.kr_seen.specs.kr_view.Reach.{nothing};
 ghost use Rattle.kr_seen.specs.kr_view.View.{plain, root_place};
@@ -22,12 +22,11 @@ ghost use Rattle.kr_hostview.specs.Peeking.{IsFound, kind_at, target_name};
 use crate::target::{carries_one_mount, standing_target};
 use crate::view::host_procs;
 use kr_seen::below::{
-    Host, HostMount, Ino, Kind, Places, Plain, ProcAt, Reach, Right, State, Target, WalkFault,
-    What, proc_name, resolve,
+    BaseKind, Bytes, Errno, Host, HostMount, Ino, Kind, NoMemory, PeekFault, PeekKind, Places,
+    Plain, ProcAt, Reach, Right, State, Target, WalkFault, WalkMode, What, proc_name, resolve,
 };
 use kr_seen::guest::{guest_text, text_to};
 use kr_seen::target::Target as Led;
-use pr_base::{BaseKind, Bytes, Errno, NoMemory, PeekFault, PeekKind, WalkMode};
 use std::alloc::Global;
 
 /// The kind of what a host path leads to. It fails as the walk there does.

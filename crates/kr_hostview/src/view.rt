@@ -7,10 +7,9 @@ ghost use Rattle.kr_seen.specs.Shown.{lead_to};
 ghost use Rattle.kr_hostview.specs.OnHost.{host_target, number};
 
 use crate::target::{carries_one_mount, standing_target};
-use kr_seen::below::{HostMount, Lead, Plain, ProcAt, Procs, State, proc_name};
+use kr_seen::below::{HostMount, Lead, NoMemory, Plain, ProcAt, Procs, State, proc_name};
 use kr_seen::find::find;
 use kr_seen::guest::lead_to;
-use pr_base::NoMemory;
 use std::alloc::Global;
 use std::marker::Model;
 

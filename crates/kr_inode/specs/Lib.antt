@@ -5,3 +5,4 @@ pub mod Inode
 pub mod Names
 pub mod Rights
 pub mod Stored
+pub mod GroundLemmas

@@ -2,16 +2,16 @@
 use Rattle.std.proofs.Common.{◌≡◌, ◌≢◌, ◌≤◌, ◌<◌, ◌+◌, ◌&&◌, ℕ, Bool, true, false, not, Option, Some, None, List, [], ◌∷◌, ◌++◌, length, append-nil, append_assoc, refl, sym, ap, subst, ◌∙◌, arith}
 use Rattle.std.specs.Option.{option_map, option_map_or}
 use Rattle.pt_bind.proofs.pr_base.MapLemmas.{by_key, get-insert_same, get-insert_other, get-changed_same, get-changed_other}
-use Rattle.kr_view.specs.kr_inode.declared.user.User.{User}
-use Rattle.kr_view.specs.kr_tree.Changes.{fresh, has_no_room, next_serial, next_standing, with_entries, with_entry, with_inode, with_standing, is_too_big}
-use Rattle.kr_view.specs.kr_tree.Holds.{holds_at}
-use Rattle.kr_view.specs.kr_tree.Lawful.{IsSound, IsCounted}
-use Rattle.kr_view.specs.kr_tree.Names.{is_name}
-use Rattle.kr_view.specs.kr_tree.Tree.{Tree, Body, Directory, RegularFile, SymbolicLink, ProcessDirectory, Entry, Inode, bytes_of, entries_of, inode, is_directory}
-use Rattle.kr_view.proofs.kr_tree.AddLemmas.{sound-added, counted-added}
+use Rattle.kr_walk.specs.kr_inode.declared.user.User.{User}
+use Rattle.kr_walk.specs.kr_tree.Changes.{fresh, has_no_room, next_serial, next_standing, with_entries, with_entry, with_inode, with_standing, is_too_big}
+use Rattle.kr_walk.specs.kr_tree.Holds.{holds_at}
+use Rattle.kr_walk.specs.kr_tree.Lawful.{IsSound, IsCounted}
+use Rattle.kr_walk.specs.kr_tree.Names.{is_name}
+use Rattle.kr_walk.specs.kr_tree.Tree.{Tree, Body, Directory, RegularFile, SymbolicLink, ProcessDirectory, Entry, Inode, bytes_of, entries_of, inode, is_directory}
+use Rattle.kr_walk.proofs.kr_tree.AddLemmas.{sound-added, counted-added}
 use Rattle.kr_mounts.specs.Growth.{IsGrown, Same, Made, IsAsBefore, HasAllBefore, GrownTreesHaveAllBefore}
-use Rattle.kr_view.specs.kr_inode.declared.user.Right.TheVariants.{Write, Search}
-use Rattle.kr_view.specs.kr_tree.Rights.{may}
+use Rattle.kr_walk.specs.kr_inode.declared.user.Right.TheVariants.{Write, Search}
+use Rattle.kr_walk.specs.kr_tree.Rights.{may}
 use Rattle.kr_mounts.specs.Points.{made, new_body, new_mode}
 
 -- ---- one inode

@@ -11,9 +11,9 @@ use Rattle.pt_bind.specs.pr_base.declared.bind.Bind.{Bind}
 use Rattle.pt_bind.specs.pr_base.declared.bind.Bound.{Bound}
 use Rattle.pt_bind.specs.Binding.{AreBounds, AreTexts, IsWritten, point_of, row_of as texts_of}
 use Rattle.pt_bind.proofs.ByteLemmas.{spelled, spelled_parts}
-use Rattle.kr_view.specs.kr_inode.declared.user.User.{User}
-use Rattle.kr_view.specs.kr_tree.Tree.{Tree}
-use Rattle.kr_view.specs.View.{Point, Row}
+use Rattle.kr_walk.specs.kr_inode.declared.user.User.{User}
+use Rattle.kr_walk.specs.kr_tree.Tree.{Tree}
+use Rattle.kr_walk.specs.kr_view.View.{Point, Row}
 use Rattle.kr_mounts.specs.Bounds.{AreNumbered, AreWritten, IsSpelled}
 use Rattle.kr_mounts.specs.Locations.{location_by}
 use Rattle.kr_mounts.specs.MountTable.{Located, Refusal, Settling, Sourced, after_way, and_then, as_source, counting, in_order, is_located_as, located, located_all, locations, placed_before, point_row, points, points_of, root_row, settling, sourced, sources, told, way_along}

@@ -1,13 +1,13 @@
 -- Settling makes names, and changes nothing else.
 use Rattle.std.proofs.Common.{◌≡◌, ℕ, Bool, true, false, Option, Some, None, Result, Ok, Err, List, [], ◌∷◌, ◌++◌, refl, reverse}
 use Rattle.std.specs.Bool.{if◌then◌else◌}
-use Rattle.kr_view.specs.kr_inode.declared.user.User.{User}
-use Rattle.kr_view.specs.kr_tree.declared.place.Host.{Host}
-use Rattle.kr_view.specs.kr_tree.declared.place.Host.TheVariants.{Node, Proc}
-use Rattle.kr_view.specs.kr_tree.declared.place.Place.{Place}
-use Rattle.kr_view.specs.kr_tree.Tree.{Tree, body_is, entry, takes_names}
-use Rattle.kr_view.specs.Laws.{is_link}
-use Rattle.kr_view.specs.View.{Point, Row, down, root_source}
+use Rattle.kr_walk.specs.kr_inode.declared.user.User.{User}
+use Rattle.kr_walk.specs.kr_tree.declared.place.Host.{Host}
+use Rattle.kr_walk.specs.kr_tree.declared.place.Host.TheVariants.{Node, Proc}
+use Rattle.kr_walk.specs.kr_tree.declared.place.Place.{Place}
+use Rattle.kr_walk.specs.kr_tree.Tree.{Tree, body_is, entry, takes_names}
+use Rattle.kr_walk.specs.kr_view.Laws.{is_link}
+use Rattle.kr_walk.specs.kr_view.View.{Point, Row, down, root_source}
 use Rattle.kr_mounts.specs.declared.fault.BindWhy.{BindWhy}
 use Rattle.kr_mounts.specs.declared.fault.BindWhy.TheVariants.{LinkOnTheWay, NoPoint}
 use Rattle.kr_mounts.specs.Growth.{IsGrown, Same, Made, SettlingMakesNamesAlone}

@@ -11,13 +11,13 @@ use Rattle.pt_bind.specs.pr_base.MountText.{MountText}
 use Rattle.pt_bind.specs.pr_base.Texts.{Text}
 use Rattle.pt_bind.proofs.pr_base.TextLemmas.{texts_same, texts_true}
 use Rattle.pt_bind.specs.Binding.{host_at, host_of, is_located, located, number_at, owner, source_of}
-use Rattle.kr_view.specs.kr_tree.declared.place.Host.{Host}
-use Rattle.kr_view.specs.kr_tree.declared.place.Host.TheVariants.{Node, Proc}
-use Rattle.kr_view.specs.kr_tree.declared.place.Place.{Place}
-use Rattle.kr_view.specs.kr_tree.Names.{named}
-use Rattle.kr_view.specs.kr_tree.Tree.{Tree, entry}
-use Rattle.kr_view.proofs.kr_tree.NameLemmas.{map_some, some_is, then_some}
-use Rattle.kr_view.specs.View.{Row, down, is_point, node_in, plain_row, root_place, row, source_place, stands_at}
+use Rattle.kr_walk.specs.kr_tree.declared.place.Host.{Host}
+use Rattle.kr_walk.specs.kr_tree.declared.place.Host.TheVariants.{Node, Proc}
+use Rattle.kr_walk.specs.kr_tree.declared.place.Place.{Place}
+use Rattle.kr_walk.specs.kr_tree.Names.{named}
+use Rattle.kr_walk.specs.kr_tree.Tree.{Tree, entry}
+use Rattle.kr_walk.proofs.kr_tree.NameLemmas.{map_some, some_is, then_some}
+use Rattle.kr_walk.specs.kr_view.View.{Row, down, is_point, node_in, plain_row, root_place, row, source_place, stands_at}
 use Rattle.kr_mounts.specs.Standing.{behind, led, next_by_name, texts_of}
 use Rattle.kr_mounts.proofs.StandLemmas.{IsNamed, Stands, located_at, named_where, point_found, root_source_is, root_there}
 use Rattle.kr_mounts.proofs.WayLemmas.{node_number}

@@ -14,12 +14,12 @@ use Rattle.std.proofs.lemmas.List.Folds.{position_or_len_push}
 use Rattle.std.proofs.lemmas.List.Sums.{prefix_len-le-length, fails_before_first}
 use Rattle.std.proofs.lemmas.List.Quantifiers.{position-Some}
 use Rattle.std.proofs.lemmas.Slice.Eq.{bytes_eq-Decides}
-use Rattle.kr_view.specs.View.{Point, Row, plain_row, covered, is_name_at, is_point, is_there, stands_at}
+use Rattle.kr_walk.specs.kr_view.View.{Point, Row, plain_row, covered, is_name_at, is_point, is_there, stands_at}
 use Rattle.pt_bind.specs.Kept.{IsNoted}
 use Rattle.kr_mounts.specs.declared.mounted.PointKey.{PointKey}
 use Rattle.kr_mounts.specs.declared.mounted.EntryKey.{EntryKey}
 use Rattle.kr_mounts.specs.Index.{has_name, name_number, point_cmp, entry_cmp, IsIndexOf, IsNameNoted, IsKeyNoted}
-use Rattle.kr_view.proofs.kr_tree.NameLemmas.{some_is}
+use Rattle.kr_walk.proofs.kr_tree.NameLemmas.{some_is}
 
 -- ---- the first row that passes a test, with one row more
 

@@ -9,22 +9,22 @@ use Rattle.std.proofs.lemmas.Option.{slice_get_within}
 use Rattle.pt_bind.specs.pr_base.Paths.{AreNames, IsName}
 use Rattle.pt_bind.specs.pr_base.Texts.{Text}
 use Rattle.pt_bind.specs.pr_base.declared.bind.Bind.{Bind}
-use Rattle.kr_view.specs.kr_inode.declared.user.User.{User}
-use Rattle.kr_view.specs.kr_inode.declared.user.Right.TheVariants.{Write, Search}
-use Rattle.kr_view.proofs.kr_inode.NameLemmas.{name_decides}
-use Rattle.kr_view.specs.kr_tree.declared.place.Host.{Host}
-use Rattle.kr_view.specs.kr_tree.declared.place.Host.TheVariants.{Node, Proc}
-use Rattle.kr_view.specs.kr_tree.declared.place.Place.{Place}
-use Rattle.kr_view.specs.kr_tree.Changes.{has_no_room}
-use Rattle.kr_view.specs.kr_tree.Lawful.{IsSound, IsCounted, HasItsInodes}
-use Rattle.kr_view.specs.kr_tree.Names.{host_name, is_name, named, reached}
-use Rattle.kr_view.specs.kr_tree.Rights.{may}
-use Rattle.kr_view.specs.kr_tree.Tree.{Tree, Inode, body, body_is, entry, inode, is_directory, is_listed, takes_names}
-use Rattle.kr_view.proofs.kr_tree.EntryLemmas.{entry_named_well, named_once, named_there}
-use Rattle.kr_view.proofs.kr_tree.NameLemmas.{host_names-lead, named-host_name, some_is}
+use Rattle.kr_walk.specs.kr_inode.declared.user.User.{User}
+use Rattle.kr_walk.specs.kr_inode.declared.user.Right.TheVariants.{Write, Search}
+use Rattle.kr_walk.proofs.kr_inode.NameLemmas.{name_decides}
+use Rattle.kr_walk.specs.kr_tree.declared.place.Host.{Host}
+use Rattle.kr_walk.specs.kr_tree.declared.place.Host.TheVariants.{Node, Proc}
+use Rattle.kr_walk.specs.kr_tree.declared.place.Place.{Place}
+use Rattle.kr_walk.specs.kr_tree.Changes.{has_no_room}
+use Rattle.kr_walk.specs.kr_tree.Lawful.{IsSound, IsCounted, HasItsInodes}
+use Rattle.kr_walk.specs.kr_tree.Names.{host_name, is_name, named, reached}
+use Rattle.kr_walk.specs.kr_tree.Rights.{may}
+use Rattle.kr_walk.specs.kr_tree.Tree.{Tree, Inode, body, body_is, entry, inode, is_directory, is_listed, takes_names}
+use Rattle.kr_walk.proofs.kr_tree.EntryLemmas.{entry_named_well, named_once, named_there}
+use Rattle.kr_walk.proofs.kr_tree.NameLemmas.{host_names-lead, named-host_name, some_is}
 use Rattle.pt_bind.specs.Binding.{host_of}
-use Rattle.kr_view.specs.Laws.{is_link}
-use Rattle.kr_view.specs.View.{Point, Row, down, is_there, node_in, root_source, row}
+use Rattle.kr_walk.specs.kr_view.Laws.{is_link}
+use Rattle.kr_walk.specs.kr_view.View.{Point, Row, down, is_there, node_in, root_source, row}
 use Rattle.kr_mounts.specs.Growth.{HasAllBefore, Same, Made}
 use Rattle.kr_mounts.specs.Locations.{location_by}
 use Rattle.kr_mounts.specs.MountTable.{Located, Refusal, Settling, Sourced, after_way, and_then, as_source, counting, dir_of, in_order, located, located_all, locations, point_row, points, points_of, root_row, settling, sourced, sources, told, way_along}

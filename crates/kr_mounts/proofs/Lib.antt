@@ -1,6 +1,6 @@
 pub use Rattle.pt_bind.proofs.pr_base as pr_base
-pub use Rattle.kr_view.proofs.kr_tree as kr_tree
-pub use Rattle.kr_view.proofs as kr_view
+pub use Rattle.kr_walk.proofs.kr_tree as kr_tree
+pub use Rattle.kr_walk.proofs.kr_view as kr_view
 pub mod BeforeLemmas
 pub mod BoundLemmas
 pub mod CutLemmas

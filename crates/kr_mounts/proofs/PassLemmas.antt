@@ -1,7 +1,7 @@
 -- The passes, one binding after the other.
 use Rattle.std.proofs.Common.{◌≡◌, List, [], ◌∷◌, ◌++◌, append-nil, append_assoc, Result, Ok, Err, IsErr, IsErrAnd, length, refl, ap, sym, subst, ◌∙◌, ℕ, arith}
-use Rattle.kr_view.specs.kr_tree.Tree.{Tree}
-use Rattle.kr_view.specs.View.{Row}
+use Rattle.kr_walk.specs.kr_tree.Tree.{Tree}
+use Rattle.kr_walk.specs.kr_view.View.{Row}
 use Rattle.kr_mounts.specs.MountTable.{Refusal, Settling, and_then}
 use Rattle.kr_mounts.specs.Passes.{IsPlaced, IsSettled, IsTold}
 use Rattle.kr_mounts.specs.declared.fault.BindFault.{BindFault}

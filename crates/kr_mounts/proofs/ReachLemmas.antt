@@ -11,21 +11,21 @@ use Rattle.pt_bind.specs.pr_base.declared.errno.Errno.TheVariants.{EACCES, ENOTD
 use Rattle.pt_bind.specs.pr_base.declared.path.WalkMode.TheVariants.{Look}
 use Rattle.pt_bind.proofs.pr_base.EndLemmas.{EndsSo}
 use Rattle.pt_bind.proofs.pr_base.KeepLemmas.{GoesOn, walk_keeps}
-use Rattle.kr_view.specs.kr_inode.declared.user.Right.TheVariants.{Search}
-use Rattle.kr_view.specs.kr_inode.declared.standing.Standing.{Standing}
-use Rattle.kr_view.specs.kr_inode.declared.user.User.{User}
-use Rattle.kr_view.specs.kr_tree.Lawful.{IsSound}
-use Rattle.kr_view.specs.kr_tree.Names.{host_name, named, reached}
-use Rattle.kr_view.specs.kr_tree.Rights.{may}
-use Rattle.kr_view.specs.kr_tree.Tree.{Tree, Body, Directory, RegularFile, SymbolicLink, ProcessDirectory, above as node_above, body, body_is, entry, is_directory, root}
-use Rattle.kr_view.specs.kr_tree.declared.place.Host.{Host}
-use Rattle.kr_view.specs.kr_tree.declared.place.Host.TheVariants.{Node, Proc}
-use Rattle.kr_view.specs.kr_tree.declared.place.Place.{Place}
-use Rattle.kr_view.proofs.kr_tree.EntryLemmas.{entry_in_directory, entry_stands, last_step, reached-named, step_more}
-use Rattle.kr_view.proofs.kr_tree.NameLemmas.{map_some, named-host_name, some_is}
-use Rattle.kr_view.specs.View.{is_root_place, node_in, plain, root_place, up}
-use Rattle.kr_view.specs.Component.{SeenPlace, Surroundings, above_body, above_host, above_node, in_node, inside, is_directory_at, is_processes, look_up, may_search, named_in, seen_body, seen_entry, seen_in_processes, shows_directory, too_long}
-use Rattle.kr_view.specs.Walk.{PlaceTarget, looking, place_walk}
+use Rattle.kr_walk.specs.kr_inode.declared.user.Right.TheVariants.{Search}
+use Rattle.kr_walk.specs.kr_inode.declared.standing.Standing.{Standing}
+use Rattle.kr_walk.specs.kr_inode.declared.user.User.{User}
+use Rattle.kr_walk.specs.kr_tree.Lawful.{IsSound}
+use Rattle.kr_walk.specs.kr_tree.Names.{host_name, named, reached}
+use Rattle.kr_walk.specs.kr_tree.Rights.{may}
+use Rattle.kr_walk.specs.kr_tree.Tree.{Tree, Body, Directory, RegularFile, SymbolicLink, ProcessDirectory, above as node_above, body, body_is, entry, is_directory, root}
+use Rattle.kr_walk.specs.kr_tree.declared.place.Host.{Host}
+use Rattle.kr_walk.specs.kr_tree.declared.place.Host.TheVariants.{Node, Proc}
+use Rattle.kr_walk.specs.kr_tree.declared.place.Place.{Place}
+use Rattle.kr_walk.proofs.kr_tree.EntryLemmas.{entry_in_directory, entry_stands, last_step, reached-named, step_more}
+use Rattle.kr_walk.proofs.kr_tree.NameLemmas.{map_some, named-host_name, some_is}
+use Rattle.kr_walk.specs.kr_view.View.{is_root_place, node_in, plain, root_place, up}
+use Rattle.kr_walk.specs.kr_view.Component.{SeenPlace, Surroundings, above_body, above_host, above_node, in_node, inside, is_directory_at, is_processes, look_up, may_search, named_in, seen_body, seen_entry, seen_in_processes, shows_directory, too_long}
+use Rattle.kr_walk.specs.kr_view.Walk.{PlaceTarget, looking, place_walk}
 use Rattle.kr_mounts.specs.Sources.{Source, around_table, directory_source, entry_source, source_at, source_by, source_of}
 use Rattle.kr_mounts.proofs.SourceLemmas.{found_well, source_was_walked}
 

@@ -5,14 +5,14 @@ use Rattle.std.specs.Option.{option_map, option_map_or, option_and_then}
 use Rattle.pt_bind.specs.pr_base.Paths.{Component}
 use Rattle.pt_bind.specs.pr_base.WalkFrame.{Fails, Leads, Links}
 use Rattle.pt_bind.specs.pr_base.declared.errno.Errno.TheVariants.{EACCES, ENOTDIR, ENOENT, ENAMETOOLONG}
-use Rattle.kr_view.specs.kr_tree.Lawful.{HasItsInodes}
-use Rattle.kr_view.specs.kr_tree.Tree.{Tree, Inode, Entry, Body, Directory, RegularFile, SymbolicLink, ProcessDirectory, above as node_above, body, body_is, entries_of, entry, entry_named, inode, text_of}
-use Rattle.kr_view.specs.kr_tree.declared.place.Host.TheVariants.{Node}
-use Rattle.kr_view.proofs.kr_tree.NameLemmas.{some_is}
-use Rattle.kr_view.specs.kr_tree.declared.place.Place.{Place}
-use Rattle.kr_view.proofs.kr_tree.EntryLemmas.{entered}
-use Rattle.kr_view.specs.View.{node_in, up}
-use Rattle.kr_view.specs.Component.{Namespace, SeenPlace, Surroundings, above, above_body, above_host, above_node, inside, in_node, is_directory_at, is_processes, look_up, may_search, named, named_in, seen_body, seen_entry, seen_in_processes, shows_directory, too_long}
+use Rattle.kr_walk.specs.kr_tree.Lawful.{HasItsInodes}
+use Rattle.kr_walk.specs.kr_tree.Tree.{Tree, Inode, Entry, Body, Directory, RegularFile, SymbolicLink, ProcessDirectory, above as node_above, body, body_is, entries_of, entry, entry_named, inode, text_of}
+use Rattle.kr_walk.specs.kr_tree.declared.place.Host.TheVariants.{Node}
+use Rattle.kr_walk.proofs.kr_tree.NameLemmas.{some_is}
+use Rattle.kr_walk.specs.kr_tree.declared.place.Place.{Place}
+use Rattle.kr_walk.proofs.kr_tree.EntryLemmas.{entered}
+use Rattle.kr_walk.specs.kr_view.View.{node_in, up}
+use Rattle.kr_walk.specs.kr_view.Component.{Namespace, SeenPlace, Surroundings, above, above_body, above_host, above_node, inside, in_node, is_directory_at, is_processes, look_up, may_search, named, named_in, seen_body, seen_entry, seen_in_processes, shows_directory, too_long}
 use Rattle.kr_mounts.specs.Locations.{Spot, SeenSpot, alone, by_text, leads_to, look_from, spotted}
 use Rattle.kr_mounts.specs.Spots.{IsShownAt, IsSight, alone_around}
 use Rattle.kr_mounts.specs.declared.location.Locating.{Locating}

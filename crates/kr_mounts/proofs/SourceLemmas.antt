@@ -15,30 +15,30 @@ use Rattle.pt_bind.proofs.pr_base.EndLemmas.{EndsSo, walk_ends}
 use Rattle.pt_bind.proofs.pr_base.PathLemmas.{name_is_part, names_are_parts}
 use Rattle.pt_bind.specs.Binding.{IsWritten, names_of}
 use Rattle.pt_bind.proofs.ByteLemmas.{names_written}
-use Rattle.kr_view.specs.kr_inode.declared.standing.Standing.{Standing}
-use Rattle.kr_view.specs.kr_inode.declared.user.Right.TheVariants.{Search}
-use Rattle.kr_view.specs.kr_inode.declared.user.User.{User}
-use Rattle.kr_view.specs.kr_inode.Stored.{kind_of}
-use Rattle.kr_view.specs.kr_inode.declared.node.Kind.{Kind}
-use Rattle.kr_view.specs.kr_inode.declared.node.Kind.TheVariants as kind
-use Rattle.kr_view.proofs.kr_inode.BodyLemmas.{listed-is_directory}
-use Rattle.kr_view.specs.kr_tree.Lawful.{IsSound}
-use Rattle.kr_view.specs.kr_tree.Names.{host_name}
-use Rattle.kr_view.specs.kr_tree.Rights.{may}
-use Rattle.kr_view.specs.kr_tree.Tree.{Tree, Inode, Body, Directory, RegularFile, SymbolicLink, ProcessDirectory, above as node_above, body, body_is, entry, inode, is_directory, is_listed, root, standing}
-use Rattle.kr_view.specs.kr_tree.declared.place.Host.{Host}
-use Rattle.kr_view.specs.kr_tree.declared.place.Host.TheVariants.{Node, Proc}
-use Rattle.kr_view.specs.kr_tree.declared.place.Place.{Place}
-use Rattle.kr_view.specs.kr_tree.declared.place.ProcAt.{ProcAt}
-use Rattle.kr_view.specs.kr_tree.declared.place.ProcAt.TheVariants.{SelfLink, Dir, Cwd, Root, Exe, FdDir, Fd}
-use Rattle.kr_view.proofs.kr_tree.EntryLemmas.{entry_named_well}
-use Rattle.kr_view.proofs.kr_tree.NameLemmas.{filled_directory, host_names-lead, map_some, some_is}
-use Rattle.kr_view.specs.View.{is_root_place, node_in, plain, root_place, up}
-use Rattle.kr_view.specs.Component.{SeenPlace, Surroundings, above, above_body, above_host, above_node, in_node, inside, is_directory_at, is_processes, look_up, may_search, named, named_in, seen_body, seen_entry, seen_in_processes, shows_directory, too_long}
-use Rattle.kr_view.specs.Walk.{PlaceTarget, looking, place_walk}
-use Rattle.kr_view.specs.Answers.{IsAnswer}
-use Rattle.kr_view.specs.Leads.{numbered}
-use Rattle.kr_view.specs.declared.target.Target.{Target}
+use Rattle.kr_walk.specs.kr_inode.declared.standing.Standing.{Standing}
+use Rattle.kr_walk.specs.kr_inode.declared.user.Right.TheVariants.{Search}
+use Rattle.kr_walk.specs.kr_inode.declared.user.User.{User}
+use Rattle.kr_walk.specs.kr_inode.Stored.{kind_of}
+use Rattle.kr_walk.specs.kr_inode.declared.node.Kind.{Kind}
+use Rattle.kr_walk.specs.kr_inode.declared.node.Kind.TheVariants as kind
+use Rattle.kr_walk.proofs.kr_inode.BodyLemmas.{listed-is_directory}
+use Rattle.kr_walk.specs.kr_tree.Lawful.{IsSound}
+use Rattle.kr_walk.specs.kr_tree.Names.{host_name}
+use Rattle.kr_walk.specs.kr_tree.Rights.{may}
+use Rattle.kr_walk.specs.kr_tree.Tree.{Tree, Inode, Body, Directory, RegularFile, SymbolicLink, ProcessDirectory, above as node_above, body, body_is, entry, inode, is_directory, is_listed, root, standing}
+use Rattle.kr_walk.specs.kr_tree.declared.place.Host.{Host}
+use Rattle.kr_walk.specs.kr_tree.declared.place.Host.TheVariants.{Node, Proc}
+use Rattle.kr_walk.specs.kr_tree.declared.place.Place.{Place}
+use Rattle.kr_walk.specs.kr_tree.declared.place.ProcAt.{ProcAt}
+use Rattle.kr_walk.specs.kr_tree.declared.place.ProcAt.TheVariants.{SelfLink, Dir, Cwd, Root, Exe, FdDir, Fd}
+use Rattle.kr_walk.proofs.kr_tree.EntryLemmas.{entry_named_well}
+use Rattle.kr_walk.proofs.kr_tree.NameLemmas.{filled_directory, host_names-lead, map_some, some_is}
+use Rattle.kr_walk.specs.kr_view.View.{is_root_place, node_in, plain, root_place, up}
+use Rattle.kr_walk.specs.kr_view.Component.{SeenPlace, Surroundings, above, above_body, above_host, above_node, in_node, inside, is_directory_at, is_processes, look_up, may_search, named, named_in, seen_body, seen_entry, seen_in_processes, shows_directory, too_long}
+use Rattle.kr_walk.specs.kr_view.Walk.{PlaceTarget, looking, place_walk}
+use Rattle.kr_walk.specs.kr_view.Answers.{IsAnswer}
+use Rattle.kr_walk.specs.kr_view.Leads.{numbered}
+use Rattle.kr_walk.specs.kr_view.declared.target.Target.{Target}
 use Rattle.kr_mounts.specs.Found.{source_told}
 use Rattle.kr_mounts.specs.Sources.{Source, around_table, directory_source, entry_source, source_at, source_by, source_of, source_walked}
 

@@ -9,16 +9,16 @@ use Rattle.std.proofs.lemmas.List.Elements.{All-cons, All-nil}
 use Rattle.std.proofs.lemmas.Slice.Eq.{bytes_eq-Decides}
 use Rattle.pt_bind.specs.pr_base.Paths.{AreNames, IsName}
 use Rattle.pt_bind.specs.pr_base.Texts.{Text}
-use Rattle.kr_view.specs.kr_tree.declared.place.Host.{Host}
-use Rattle.kr_view.specs.kr_tree.declared.place.Host.TheVariants.{Node, Proc}
-use Rattle.kr_view.specs.kr_tree.declared.place.Place.{Place}
-use Rattle.kr_view.specs.kr_tree.Lawful.{IsSound, IsCounted}
-use Rattle.kr_view.specs.kr_tree.Names.{named}
-use Rattle.kr_view.specs.kr_tree.Tree.{Tree, body, body_is, entry, is_directory}
-use Rattle.kr_view.proofs.kr_tree.EntryLemmas.{entry_named_well, named_once}
-use Rattle.kr_view.proofs.kr_tree.NameLemmas.{map_some, some_is, then_some}
-use Rattle.kr_view.specs.View.{Point, PointStands, Row, down, is_name_at, is_point, is_there, node_in, root_place, root_source, row, source_place, stands_at}
-use Rattle.kr_view.proofs.TableLemmas.{first_passes, point_there, there_is}
+use Rattle.kr_walk.specs.kr_tree.declared.place.Host.{Host}
+use Rattle.kr_walk.specs.kr_tree.declared.place.Host.TheVariants.{Node, Proc}
+use Rattle.kr_walk.specs.kr_tree.declared.place.Place.{Place}
+use Rattle.kr_walk.specs.kr_tree.Lawful.{IsSound, IsCounted}
+use Rattle.kr_walk.specs.kr_tree.Names.{named}
+use Rattle.kr_walk.specs.kr_tree.Tree.{Tree, body, body_is, entry, is_directory}
+use Rattle.kr_walk.proofs.kr_tree.EntryLemmas.{entry_named_well, named_once}
+use Rattle.kr_walk.proofs.kr_tree.NameLemmas.{map_some, some_is, then_some}
+use Rattle.kr_walk.specs.kr_view.View.{Point, PointStands, Row, down, is_name_at, is_point, is_there, node_in, root_place, root_source, row, source_place, stands_at}
+use Rattle.kr_walk.proofs.kr_view.TableLemmas.{first_passes, point_there, there_is}
 use Rattle.kr_mounts.specs.Growth.{HasAllBefore}
 use Rattle.kr_mounts.specs.Standing.{behind, led, next_by_name}
 use Rattle.kr_mounts.proofs.IndexLemmas.{position_push}

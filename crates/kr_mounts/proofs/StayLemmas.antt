@@ -6,20 +6,20 @@ use Rattle.std.proofs.lemmas.Slice.Eq.{bytes_eq-Decides}
 use Rattle.std.specs.Str.{bytes_eq}
 use Rattle.pt_bind.proofs.pr_base.MapLemmas.{get-insert_other, get-changed_same}
 use Rattle.pt_bind.specs.pr_base.Texts.{Text}
-use Rattle.kr_view.specs.kr_inode.Inode.{Node as NodeData}
-use Rattle.kr_view.specs.kr_inode.declared.user.Right.TheVariants.{Search}
-use Rattle.kr_view.specs.kr_inode.declared.user.User.{User}
-use Rattle.kr_view.specs.kr_tree.declared.place.Host.{Host}
-use Rattle.kr_view.specs.kr_tree.declared.place.Host.TheVariants.{Node, Proc}
-use Rattle.kr_view.specs.kr_tree.declared.place.Place.{Place}
-use Rattle.kr_view.specs.kr_tree.Changes.{fresh, next_standing, with_entries, with_entry, with_inode, with_standing}
-use Rattle.kr_view.specs.kr_tree.Lawful.{IsSound}
-use Rattle.kr_view.specs.kr_tree.Names.{named, reached}
-use Rattle.kr_view.specs.kr_tree.Rights.{allows, may}
-use Rattle.kr_view.specs.kr_tree.Tree.{Tree, Inode, Entry, Body, Directory, RegularFile, SymbolicLink, ProcessDirectory, body, body_is, entries_of, entry, entry_named, inode, is_directory, is_listed, takes_names}
-use Rattle.kr_view.proofs.kr_tree.EntryLemmas.{filled_body, last_step, step_more}
-use Rattle.kr_view.proofs.kr_tree.NameLemmas.{map_some, then_some}
-use Rattle.kr_view.specs.View.{Row, down, node_in}
+use Rattle.kr_walk.specs.kr_inode.Inode.{Node as NodeData}
+use Rattle.kr_walk.specs.kr_inode.declared.user.Right.TheVariants.{Search}
+use Rattle.kr_walk.specs.kr_inode.declared.user.User.{User}
+use Rattle.kr_walk.specs.kr_tree.declared.place.Host.{Host}
+use Rattle.kr_walk.specs.kr_tree.declared.place.Host.TheVariants.{Node, Proc}
+use Rattle.kr_walk.specs.kr_tree.declared.place.Place.{Place}
+use Rattle.kr_walk.specs.kr_tree.Changes.{fresh, next_standing, with_entries, with_entry, with_inode, with_standing}
+use Rattle.kr_walk.specs.kr_tree.Lawful.{IsSound}
+use Rattle.kr_walk.specs.kr_tree.Names.{named, reached}
+use Rattle.kr_walk.specs.kr_tree.Rights.{allows, may}
+use Rattle.kr_walk.specs.kr_tree.Tree.{Tree, Inode, Entry, Body, Directory, RegularFile, SymbolicLink, ProcessDirectory, body, body_is, entries_of, entry, entry_named, inode, is_directory, is_listed, takes_names}
+use Rattle.kr_walk.proofs.kr_tree.EntryLemmas.{filled_body, last_step, step_more}
+use Rattle.kr_walk.proofs.kr_tree.NameLemmas.{map_some, then_some}
+use Rattle.kr_walk.specs.kr_view.View.{Row, down, node_in}
 use Rattle.kr_mounts.specs.Growth.{HasAllBefore}
 use Rattle.kr_mounts.specs.Points.{made, new_body, new_mode}
 use Rattle.kr_mounts.specs.Standing.{behind, led, next_by_name}

@@ -1,8 +1,8 @@
 -- Errors that are handed on.
 use Rattle.std.proofs.Common.{◌≡◌, ℕ, List, Result, Err, IsErr, IsErrAnd, ap, sym, subst, ◌∙◌}
 use Rattle.pt_bind.specs.pr_base.Texts.{Text}
-use Rattle.kr_view.specs.kr_tree.Tree.{Tree}
-use Rattle.kr_view.specs.View.{Point}
+use Rattle.kr_walk.specs.kr_tree.Tree.{Tree}
+use Rattle.kr_walk.specs.kr_view.View.{Point}
 use Rattle.kr_mounts.specs.MountTable.{Refusal, and_then, told}
 use Rattle.kr_mounts.specs.Passes.{IsTold, fault_told}
 use Rattle.kr_mounts.specs.Points.{Left}

@@ -6,8 +6,8 @@ use Rattle.std.specs.Option.{option_map, option_map_or, option_and_then}
 use Rattle.std.proofs.lemmas.Option.{slice_get-map, slice_get-get_or, slice_get_within}
 use Rattle.pt_bind.specs.Binding.{IsWritten}
 use Rattle.pt_bind.proofs.ByteLemmas.{spelled}
-use Rattle.kr_view.specs.kr_tree.declared.place.Place.{Place}
-use Rattle.kr_view.specs.View.{Point, Row, row, node_in, stands_at, is_point, down, up, source, location, source_place, source_entry, point_place}
+use Rattle.kr_walk.specs.kr_tree.declared.place.Place.{Place}
+use Rattle.kr_walk.specs.kr_view.View.{Point, Row, row, node_in, stands_at, is_point, down, up, source, location, source_place, source_entry, point_place}
 use Rattle.pt_bind.specs.pr_base.Paths.{text_of}
 use Rattle.kr_mounts.specs.declared.mount.Mount.{Mount}
 use Rattle.kr_mounts.specs.declared.mount.MountPoint.{MountPoint}

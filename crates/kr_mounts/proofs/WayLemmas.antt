@@ -1,19 +1,19 @@
 -- Ways of locations, name after name, and the names that are made on them.
 use Rattle.std.proofs.Common.{◌≡◌, ◌≤◌, ◌<◌, ◌+◌, ◌*◌, ◌^◌, ◌&&◌, not, ℕ, Bool, true, false, List, [], Option, Some, None, Result, Ok, Err, refl, ap, sym, subst, ◌∙◌, arith}
 use Rattle.std.specs.Bool.{if◌then◌else◌}
-use Rattle.kr_view.specs.kr_inode.declared.user.User.{User}
-use Rattle.kr_view.specs.kr_inode.declared.user.Right.TheVariants.{Write, Search}
-use Rattle.kr_view.specs.kr_tree.Changes.{has_no_room, next_serial}
-use Rattle.kr_view.specs.kr_tree.Lawful.{IsSound, IsCounted}
-use Rattle.kr_view.specs.kr_tree.Names.{is_name}
-use Rattle.kr_view.specs.kr_tree.Rights.{may}
-use Rattle.kr_view.specs.kr_tree.Tree.{Tree, body_is, entry, takes_names}
-use Rattle.kr_view.specs.kr_tree.declared.place.Host.{Host}
-use Rattle.kr_view.specs.kr_tree.declared.place.Host.TheVariants.{Node, Proc}
-use Rattle.kr_view.specs.kr_tree.declared.place.Place.{Place}
-use Rattle.kr_view.specs.kr_tree.declared.place.ProcAt.{ProcAt}
-use Rattle.kr_view.specs.Laws.{is_link}
-use Rattle.kr_view.specs.View.{Point, Row, down}
+use Rattle.kr_walk.specs.kr_inode.declared.user.User.{User}
+use Rattle.kr_walk.specs.kr_inode.declared.user.Right.TheVariants.{Write, Search}
+use Rattle.kr_walk.specs.kr_tree.Changes.{has_no_room, next_serial}
+use Rattle.kr_walk.specs.kr_tree.Lawful.{IsSound, IsCounted}
+use Rattle.kr_walk.specs.kr_tree.Names.{is_name}
+use Rattle.kr_walk.specs.kr_tree.Rights.{may}
+use Rattle.kr_walk.specs.kr_tree.Tree.{Tree, body_is, entry, takes_names}
+use Rattle.kr_walk.specs.kr_tree.declared.place.Host.{Host}
+use Rattle.kr_walk.specs.kr_tree.declared.place.Host.TheVariants.{Node, Proc}
+use Rattle.kr_walk.specs.kr_tree.declared.place.Place.{Place}
+use Rattle.kr_walk.specs.kr_tree.declared.place.ProcAt.{ProcAt}
+use Rattle.kr_walk.specs.kr_view.Laws.{is_link}
+use Rattle.kr_walk.specs.kr_view.View.{Point, Row, down}
 use Rattle.kr_mounts.specs.Growth.{IsGrown, Same, Made}
 use Rattle.kr_mounts.specs.Points.{Left, Wanted, at_entry, at_last_name, fits, made, may_make, point_unless, refused, through, way}
 use Rattle.kr_mounts.specs.Ways.{HasNumbers, IsEnded, IsEntered, IsMade, IsPut, IsReached, entering}

@@ -1,11 +1,11 @@
 -- What settling does to the tree: it makes names, one after the other, and nothing else.
 use Rattle.std.specs.Prelude.{ℕ, ◌≡◌, ◌≤◌, ◌+◌, Bool, true, List, ◌++◌, Some, None}
 use Rattle.pt_bind.specs.pr_base.declared.bind.Bind.{Bind}
-use Rattle.kr_view.specs.kr_inode.declared.user.User.{User}
-use Rattle.kr_view.specs.kr_tree.Changes.{next_serial, with_entries}
-use Rattle.kr_view.specs.kr_tree.Holds.{holds_at}
-use Rattle.kr_view.specs.kr_tree.Lawful.{IsSound, IsCounted}
-use Rattle.kr_view.specs.kr_tree.Tree.{Tree, Entry, Inode, body_is, entry, inode, takes_names}
+use Rattle.kr_walk.specs.kr_inode.declared.user.User.{User}
+use Rattle.kr_walk.specs.kr_tree.Changes.{next_serial, with_entries}
+use Rattle.kr_walk.specs.kr_tree.Holds.{holds_at}
+use Rattle.kr_walk.specs.kr_tree.Lawful.{IsSound, IsCounted}
+use Rattle.kr_walk.specs.kr_tree.Tree.{Tree, Entry, Inode, body_is, entry, inode, takes_names}
 use Rattle.kr_mounts.specs.Points.{made, may_make}
 use Rattle.kr_mounts.specs.MountTable.{settling}
 

@@ -5,7 +5,7 @@ use Rattle.std.specs.Cmp.Lexicographic.{slice_cmp}
 use Rattle.std.specs.Option.{unwrap_or}
 use Rattle.std.specs.Ordering.{is_eq, nat_cmp, ordering_then}
 use Rattle.std.specs.declared.cmp.Ordering.{Ordering}
-use Rattle.kr_view.specs.View.{Point, Row, is_name_at, is_point, stands_at}
+use Rattle.kr_walk.specs.kr_view.View.{Point, Row, is_name_at, is_point, stands_at}
 use Rattle.pt_bind.specs.Kept.{IsNoted}
 use Rattle.kr_mounts.specs.declared.mount.Mount.{Mount}
 use Rattle.kr_mounts.specs.declared.mounted.PointKey.{PointKey}

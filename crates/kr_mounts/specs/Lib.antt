@@ -1,7 +1,7 @@
 pub use Rattle.pt_bind.specs.pr_base as pr_base
-pub use Rattle.kr_view.specs.kr_inode as kr_inode
-pub use Rattle.kr_view.specs.kr_tree as kr_tree
-pub use Rattle.kr_view.specs as kr_view
+pub use Rattle.kr_walk.specs.kr_inode as kr_inode
+pub use Rattle.kr_walk.specs.kr_tree as kr_tree
+pub use Rattle.kr_walk.specs.kr_view as kr_view
 pub use Rattle.pt_bind.specs as pt_bind
 pub mod Bounds
 pub mod Found

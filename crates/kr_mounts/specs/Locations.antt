@@ -6,11 +6,11 @@ use Rattle.pt_bind.specs.pr_base.WalkFrame.{Looking, Seen, Fails, Missing, Leads
 use Rattle.pt_bind.specs.pr_base.declared.errno.Errno.{Errno}
 use Rattle.pt_bind.specs.pr_base.declared.path.WalkMode.{WalkMode}
 use Rattle.pt_bind.specs.pr_base.declared.path.WalkMode.TheVariants.{Look, LookLink}
-use Rattle.kr_view.specs.kr_inode.declared.user.User.{User}
-use Rattle.kr_view.specs.kr_tree.declared.place.Place.{Place}
-use Rattle.kr_view.specs.kr_tree.Tree.{Tree}
-use Rattle.kr_view.specs.Component.{SeenPlace, is_directory_at, look_up}
-use Rattle.kr_view.specs.View.{Row, plain_row, root_place}
+use Rattle.kr_walk.specs.kr_inode.declared.user.User.{User}
+use Rattle.kr_walk.specs.kr_tree.declared.place.Place.{Place}
+use Rattle.kr_walk.specs.kr_tree.Tree.{Tree}
+use Rattle.kr_walk.specs.kr_view.Component.{SeenPlace, is_directory_at, look_up}
+use Rattle.kr_walk.specs.kr_view.View.{Row, plain_row, root_place}
 use Rattle.kr_mounts.specs.Sources.{around_table}
 use Rattle.kr_mounts.specs.declared.fault.BindWhy.{BindWhy}
 use Rattle.kr_mounts.specs.declared.fault.BindWhy.TheVariants.{NoPoint, AtRoot}

@@ -1,8 +1,8 @@
 -- What the passes of settling answer in code.
 use Rattle.std.specs.Prelude.{◌≡◌, ℕ, List, [], ◌∷◌, reverse, Result, Ok, Err}
-use Rattle.kr_view.specs.kr_inode.declared.user.User.{User}
-use Rattle.kr_view.specs.kr_tree.Tree.{Tree}
-use Rattle.kr_view.specs.View.{Row}
+use Rattle.kr_walk.specs.kr_inode.declared.user.User.{User}
+use Rattle.kr_walk.specs.kr_tree.Tree.{Tree}
+use Rattle.kr_walk.specs.kr_view.View.{Row}
 use Rattle.pt_bind.specs.pr_base.Texts.{Text}
 use Rattle.pt_bind.specs.Binding.{IsWritten}
 use Rattle.kr_mounts.specs.Found.{source_told}

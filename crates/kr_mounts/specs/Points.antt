@@ -1,16 +1,16 @@
 -- Where mounts stand: the way of a location's names through the mounts before it, on which missing names are made.
 use Rattle.std.specs.Prelude.{ℕ, Bool, true, false, ◌&&◌, not, List, [], ◌∷◌, Option, Some, None, Result, Ok, Err, if◌then◌else◌}
-use Rattle.kr_view.specs.kr_inode.declared.user.User.{User}
-use Rattle.kr_view.specs.kr_inode.declared.user.Right.TheVariants.{Write, Search}
-use Rattle.kr_view.specs.kr_tree.declared.place.Host.{Host}
-use Rattle.kr_view.specs.kr_tree.declared.place.Host.TheVariants.{Node, Proc}
-use Rattle.kr_view.specs.kr_tree.declared.place.Place.{Place}
-use Rattle.kr_view.specs.kr_tree.Changes.{added, has_no_room}
-use Rattle.kr_view.specs.kr_tree.Names.{is_name}
-use Rattle.kr_view.specs.kr_tree.Rights.{may}
-use Rattle.kr_view.specs.kr_tree.Tree.{Tree, Body, Directory, RegularFile, body_is, entry, is_directory, takes_names}
-use Rattle.kr_view.specs.Laws.{is_link}
-use Rattle.kr_view.specs.View.{Point, Row, down}
+use Rattle.kr_walk.specs.kr_inode.declared.user.User.{User}
+use Rattle.kr_walk.specs.kr_inode.declared.user.Right.TheVariants.{Write, Search}
+use Rattle.kr_walk.specs.kr_tree.declared.place.Host.{Host}
+use Rattle.kr_walk.specs.kr_tree.declared.place.Host.TheVariants.{Node, Proc}
+use Rattle.kr_walk.specs.kr_tree.declared.place.Place.{Place}
+use Rattle.kr_walk.specs.kr_tree.Changes.{added, has_no_room}
+use Rattle.kr_walk.specs.kr_tree.Names.{is_name}
+use Rattle.kr_walk.specs.kr_tree.Rights.{may}
+use Rattle.kr_walk.specs.kr_tree.Tree.{Tree, Body, Directory, RegularFile, body_is, entry, is_directory, takes_names}
+use Rattle.kr_walk.specs.kr_view.Laws.{is_link}
+use Rattle.kr_walk.specs.kr_view.View.{Point, Row, down}
 use Rattle.kr_mounts.specs.declared.fault.BindWhy.{BindWhy}
 use Rattle.kr_mounts.specs.declared.fault.BindWhy.TheVariants.{Kind, LinkOnTheWay, NoPoint}
 

@@ -5,16 +5,16 @@ use Rattle.pt_bind.specs.pr_base.Paths.{is_walked}
 use Rattle.pt_bind.specs.pr_base.Texts.{Text, below}
 use Rattle.pt_bind.specs.pr_base.declared.errno.Errno.{Errno}
 use Rattle.pt_bind.specs.pr_base.declared.path.WalkMode.TheVariants.{Look}
-use Rattle.kr_view.specs.kr_inode.declared.user.User.{User}
-use Rattle.kr_view.specs.kr_tree.declared.place.Host.{Host}
-use Rattle.kr_view.specs.kr_tree.declared.place.Host.TheVariants.{Node, Proc}
-use Rattle.kr_view.specs.kr_tree.declared.place.Place.{Place}
-use Rattle.kr_view.specs.kr_tree.Tree.{Tree, above, body_is, is_directory, is_listed}
-use Rattle.kr_view.specs.kr_tree.Names.{host_name}
-use Rattle.kr_view.specs.Component.{Surroundings}
-use Rattle.kr_view.specs.Processes.{no_finds, no_leads}
-use Rattle.kr_view.specs.View.{Row, plain, root_place}
-use Rattle.kr_view.specs.Walk.{PlaceTarget, place_walk}
+use Rattle.kr_walk.specs.kr_inode.declared.user.User.{User}
+use Rattle.kr_walk.specs.kr_tree.declared.place.Host.{Host}
+use Rattle.kr_walk.specs.kr_tree.declared.place.Host.TheVariants.{Node, Proc}
+use Rattle.kr_walk.specs.kr_tree.declared.place.Place.{Place}
+use Rattle.kr_walk.specs.kr_tree.Tree.{Tree, above, body_is, is_directory, is_listed}
+use Rattle.kr_walk.specs.kr_tree.Names.{host_name}
+use Rattle.kr_walk.specs.kr_view.Component.{Surroundings}
+use Rattle.kr_walk.specs.kr_view.Processes.{no_finds, no_leads}
+use Rattle.kr_walk.specs.kr_view.View.{Row, plain, root_place}
+use Rattle.kr_walk.specs.kr_view.Walk.{PlaceTarget, place_walk}
 use Rattle.kr_mounts.specs.declared.fault.BindWhy.{BindWhy}
 use Rattle.kr_mounts.specs.declared.fault.BindWhy.TheVariants.{NoSource, RootNotDir}
 

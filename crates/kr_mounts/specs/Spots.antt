@@ -6,10 +6,10 @@ use Rattle.pt_bind.specs.pr_base.Texts.{Text}
 use Rattle.pt_bind.specs.pr_base.WalkFrame.{Fails, Missing, Leads, Links, walk_on}
 use Rattle.pt_bind.specs.pr_base.declared.errno.Errno.{Errno}
 use Rattle.pt_bind.specs.pr_base.declared.memory.NoMemory.{NoMemory}
-use Rattle.kr_view.specs.kr_tree.declared.place.Place.{Place}
+use Rattle.kr_walk.specs.kr_tree.declared.place.Place.{Place}
 use Rattle.pt_bind.specs.Binding.{IsWritten, names_of}
-use Rattle.kr_view.specs.View.{node_in}
-use Rattle.kr_view.specs.Component.{SeenPlace, Surroundings}
+use Rattle.kr_walk.specs.kr_view.View.{node_in}
+use Rattle.kr_walk.specs.kr_view.Component.{SeenPlace, Surroundings}
 use Rattle.kr_mounts.specs.Sources.{around_table}
 use Rattle.kr_mounts.specs.Locations.{Spot, SeenSpot, alone, leads_to, located_at, locating, location_mode, location_of, stepped}
 use Rattle.kr_mounts.specs.Texts.{IsBelow}

@@ -6,14 +6,14 @@ use Rattle.pt_bind.specs.pr_base.Paths.{AreNames}
 use Rattle.pt_bind.specs.pr_base.Texts.{Text}
 use Rattle.pt_bind.specs.pr_base.declared.bind.Bind.{Bind}
 use Rattle.pt_bind.specs.Binding.{host_of, owner}
-use Rattle.kr_view.specs.kr_inode.declared.user.User.{User}
-use Rattle.kr_view.specs.kr_tree.declared.place.Host.{Host}
-use Rattle.kr_view.specs.kr_tree.declared.place.Host.TheVariants.{Node, Proc}
-use Rattle.kr_view.specs.kr_tree.declared.place.Place.{Place}
-use Rattle.kr_view.specs.kr_tree.Lawful.{IsSound, IsCounted, HasItsInodes}
-use Rattle.kr_view.specs.kr_tree.Names.{named, reached}
-use Rattle.kr_view.specs.kr_tree.Tree.{Tree, entry}
-use Rattle.kr_view.specs.View.{IsAsSettled, Point, Row, StandsIn, down, node_in, root_place, row}
+use Rattle.kr_walk.specs.kr_inode.declared.user.User.{User}
+use Rattle.kr_walk.specs.kr_tree.declared.place.Host.{Host}
+use Rattle.kr_walk.specs.kr_tree.declared.place.Host.TheVariants.{Node, Proc}
+use Rattle.kr_walk.specs.kr_tree.declared.place.Place.{Place}
+use Rattle.kr_walk.specs.kr_tree.Lawful.{IsSound, IsCounted, HasItsInodes}
+use Rattle.kr_walk.specs.kr_tree.Names.{named, reached}
+use Rattle.kr_walk.specs.kr_tree.Tree.{Tree, entry}
+use Rattle.kr_walk.specs.kr_view.View.{IsAsSettled, Point, Row, StandsIn, down, node_in, root_place, row}
 use Rattle.kr_mounts.specs.Bounds.{AreNumbered}
 use Rattle.kr_mounts.specs.MountTable.{settling}
 

@@ -2,7 +2,7 @@
 use Rattle.std.specs.Prelude.{List, map}
 use Rattle.std.specs.Option.{option_map}
 use Rattle.pt_bind.specs.pr_base.MountText.{bound_of}
-use Rattle.kr_view.specs.View.{Point, Row}
+use Rattle.kr_walk.specs.kr_view.View.{Point, Row}
 use Rattle.std.specs.List.{All}
 use Rattle.pt_bind.specs.Binding.{row_of as texts_of, IsWritten}
 use Rattle.kr_mounts.specs.declared.mount.Mount.{Mount}

@@ -1,12 +1,12 @@
 -- What is proved of the ways of locations in code. Of this module the public clauses cite what settling leaves, and `HasNumbers`, which it asks of a tree.
 use Rattle.std.specs.Prelude.{◌≡◌, ◌≤◌, ◌+◌, ◌*◌, ◌^◌, ℕ, Bool, true, false, List, [], ◌∷◌, Option, Some, None, Result, Ok, Err, if◌then◌else◌}
-use Rattle.kr_view.specs.kr_inode.declared.user.User.{User}
-use Rattle.kr_view.specs.kr_tree.Changes.{has_no_room, next_serial}
-use Rattle.kr_view.specs.kr_tree.Tree.{Tree, body_is, takes_names}
-use Rattle.kr_view.specs.kr_tree.declared.place.Host.TheVariants.{Node, Proc}
-use Rattle.kr_view.specs.kr_tree.declared.place.Place.{Place}
-use Rattle.kr_view.specs.kr_tree.declared.place.ProcAt.{ProcAt}
-use Rattle.kr_view.specs.View.{Point, Row, down, root_source}
+use Rattle.kr_walk.specs.kr_inode.declared.user.User.{User}
+use Rattle.kr_walk.specs.kr_tree.Changes.{has_no_room, next_serial}
+use Rattle.kr_walk.specs.kr_tree.Tree.{Tree, body_is, takes_names}
+use Rattle.kr_walk.specs.kr_tree.declared.place.Host.TheVariants.{Node, Proc}
+use Rattle.kr_walk.specs.kr_tree.declared.place.Place.{Place}
+use Rattle.kr_walk.specs.kr_tree.declared.place.ProcAt.{ProcAt}
+use Rattle.kr_walk.specs.kr_view.View.{Point, Row, down, root_source}
 use Rattle.kr_mounts.specs.Points.{Left, Wanted, made, may_make, refused, through, way}
 use Rattle.kr_mounts.specs.Stored.{point_told}
 use Rattle.kr_mounts.specs.declared.fault.BindWhy.TheVariants.{NoPoint, AtRoot}

@@ -24,7 +24,6 @@
 //! their mounts.
 #![tactic(auto)]
 
-pub mod below;
 pub mod fault;
 pub mod laws;
 mod location;

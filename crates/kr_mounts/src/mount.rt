@@ -1,7 +1,7 @@
 //! Mounts as they were settled.
 ghost use Rattle.std.specs.Prelude.{◌≡◌, IfOk};
 
-use kr_view::below::kr_tree::Ino;
+use kr_walk::below::Ino;
 use pt_bind::below::pr_base::{Bound, Bytes, NoMemory};
 use std::alloc::Global;
 

@@ -1,15 +1,14 @@
 //! The view that enters mounts.
 ghost use Rattle.std.specs.Prelude.{◌≡◌, ◌++◌, ◌∷◌, [], List, length, OnOk, IfOk, position};
-ghost use Rattle.kr_view.specs.Rows.{row_told};
-ghost use Rattle.kr_view.specs.View.{Row, shown, stands_at, is_point};
+ghost use Rattle.kr_walk.specs.kr_view.Rows.{row_told};
+ghost use Rattle.kr_walk.specs.kr_view.View.{Row, shown, stands_at, is_point};
 ghost use Rattle.pt_bind.specs.Binding.{IsWritten};
 ghost use Rattle.kr_mounts.specs.Stored.{AreLocated, table_of, row_of_mount};
 ghost use Rattle.kr_mounts.specs.Index.{IsIndexOf, IsNameNoted, IsKeyNoted, point_cmp, entry_cmp};
 
 use crate::mount::{Mount, copy_mount};
 use crate::settled::Settled;
-use kr_view::below::kr_tree::{Host, Ino, Place, ROOT, Tree};
-use kr_view::{MountRow, Places};
+use kr_walk::below::{Host, Ino, MountRow, Place, Places, ROOT, Tree};
 use pt_bind::below::pr_base::{Bytes, NoMemory};
 use std::alloc::Global;
 use std::collections::BTreeMap;

@@ -2,7 +2,7 @@
 ghost use Rattle.std.specs.Prelude.{◌≡◌, ◌++◌, ◌∷◌, [], map, IfOk, OnOk};
 ghost use Rattle.std.specs.List.{All};
 ghost use Rattle.pt_bind.specs.pr_base.Paths.{IsPart};
-ghost use Rattle.kr_view.specs.kr_tree.Tree.{body_is, is_listed};
+ghost use Rattle.kr_walk.specs.kr_tree.Tree.{body_is, is_listed};
 ghost use Rattle.pt_bind.specs.Binding.{AreBounds, IsWritten, names_of};
 ghost use Rattle.kr_mounts.specs.Bounds.{AreNumbered, HasOneMore, IsSpelled};
 ghost use Rattle.kr_mounts.specs.Found.{HasTexts, located_told, source_told};
@@ -23,7 +23,7 @@ use crate::point::{Wanted, Way};
 use crate::settled::Settled;
 use crate::source::{Found, directory_text, find_source};
 use crate::text::{entry_text, last_name};
-use kr_view::below::kr_tree::{Ino, Kind, Tree, User};
+use kr_walk::below::{Ino, Kind, Tree, User};
 use pt_bind::below::pr_base::{Bind, Bound, Bytes, NoMemory};
 use std::alloc::Global;
 

@@ -2,13 +2,13 @@
 ghost use Rattle.std.specs.Prelude.{◌≡◌, ◌&&◌, ◌∷◌, None, true, [], IfOk};
 ghost use Rattle.std.specs.List.{All};
 ghost use Rattle.pt_bind.specs.Binding.{IsWritten};
-ghost use Rattle.kr_view.specs.View.{root_source};
-ghost use Rattle.kr_view.specs.kr_tree.Tree.{body_is, entry, takes_names};
-ghost use Rattle.kr_view.specs.kr_tree.Rights.{may};
-ghost use Rattle.kr_view.specs.kr_tree.Names.{is_name};
-ghost use Rattle.kr_view.specs.kr_inode.declared.user.Right.TheVariants.{Write, Search};
-ghost use Rattle.kr_view.specs.kr_inode.Stored.{body_of_new};
-ghost use Rattle.kr_view.specs.Laws.{is_link};
+ghost use Rattle.kr_walk.specs.kr_view.View.{root_source};
+ghost use Rattle.kr_walk.specs.kr_tree.Tree.{body_is, entry, takes_names};
+ghost use Rattle.kr_walk.specs.kr_tree.Rights.{may};
+ghost use Rattle.kr_walk.specs.kr_tree.Names.{is_name};
+ghost use Rattle.kr_walk.specs.kr_inode.declared.user.Right.TheVariants.{Write, Search};
+ghost use Rattle.kr_walk.specs.kr_inode.Stored.{body_of_new};
+ghost use Rattle.kr_walk.specs.kr_view.Laws.{is_link};
 ghost use Rattle.pt_bind.specs.pr_base.Paths.{IsPart, parts_of};
 ghost use Rattle.kr_mounts.specs.Growth.{IsGrown};
 ghost use Rattle.kr_mounts.specs.Points.{at_entry, fits, new_body, new_mode, way};
@@ -19,10 +19,8 @@ use crate::fault::BindWhy;
 use crate::location::Stop;
 use crate::mount::MountPoint;
 use crate::mounted::{MountNumber, Mounted};
-use kr_view::Places;
-use kr_view::below::kr_tree::laws::trees_are_kept;
-use kr_view::below::kr_tree::{
-    Host, Ino, Meta, Node, Place, Right, Tree, TreeRefusal, User, is_name,
+use kr_walk::below::{
+    Host, Ino, Meta, Node, Place, Places, Right, Tree, TreeRefusal, User, is_name, trees_are_kept,
 };
 use pt_bind::below::pr_base::{Bytes, components};
 use std::alloc::Global;

@@ -1,18 +1,19 @@
 //! The sources of bindings, found on the host.
 ghost use Rattle.std.specs.Prelude.{◌≡◌, ℕ, false, Some, IfOk, IfSome};
 ghost use Rattle.std.specs.Option.{option_map, option_map_or};
-ghost use Rattle.kr_view.specs.kr_tree.declared.place.Host.TheVariants.{Node};
-ghost use Rattle.kr_view.specs.kr_tree.Tree.{above, body_is, is_directory};
+ghost use Rattle.kr_walk.specs.kr_tree.declared.place.Host.TheVariants.{Node};
+ghost use Rattle.kr_walk.specs.kr_tree.Tree.{above, body_is, is_directory};
 ghost use Rattle.pt_bind.specs.pr_base.Paths.{IsPart};
-ghost use Rattle.kr_view.specs.kr_tree.Names.{host_name};
+ghost use Rattle.kr_walk.specs.kr_tree.Names.{host_name};
 ghost use Rattle.pt_bind.specs.Binding.{IsWritten, names_of};
 ghost use Rattle.kr_mounts.specs.Found.{source_told};
 ghost use Rattle.kr_mounts.specs.Sources.{source_at, source_by, source_walked, directory_source, entry_source};
 
 use crate::text::entry_text;
-use kr_view::below::kr_tree::laws::{directories_have_host_names, trees_are_kept};
-use kr_view::below::kr_tree::{Host, Ino, Tree, User};
-use kr_view::{HostMount, NoProcs, Places, Plain, Reach, Target, WalkFault};
+use kr_walk::below::{
+    Host, HostMount, Ino, NoProcs, Places, Plain, Reach, Target, Tree, User, WalkFault,
+    directories_have_host_names, trees_are_kept,
+};
 use kr_walk::resolve;
 use pt_bind::below::pr_base::{Bytes, NoMemory, WalkMode, is_walked};
 use std::alloc::Global;

@@ -1,3 +1,4 @@
+pub use Rattle.law_lawful.proofs.pr_base as pr_base
 pub use Rattle.law_lawful.proofs.rv_mem as rv_mem
 pub use Rattle.law_lawful.proofs.kr_inode as kr_inode
 pub use Rattle.law_lawful.proofs.kr_tree as kr_tree

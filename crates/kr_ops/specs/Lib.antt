@@ -1,3 +1,4 @@
+pub use Rattle.law_lawful.specs.pr_base as pr_base
 pub use Rattle.law_lawful.specs.rv_mem as rv_mem
 pub use Rattle.law_lawful.specs.kr_inode as kr_inode
 pub use Rattle.law_lawful.specs.kr_tree as kr_tree

@@ -6,9 +6,9 @@ use Rattle.std.specs.List.{All}
 use Rattle.std.specs.Option.{option_map, option_map_or, option_and_then}
 use Rattle.std.proofs.lemmas.Bool.{false≢true}
 use Rattle.std.proofs.lemmas.Option.{same_Some, none-some}
-use Rattle.kr_seen.specs.pr_base.Paths.{IsName, is_absolute}
-use Rattle.kr_seen.specs.pr_base.declared.errno.Errno.{Errno}
-use Rattle.kr_seen.specs.pr_base.declared.errno.Errno.TheVariants.{EBADF, ENOENT, ENOTDIR}
+use Rattle.law_allowed.specs.pr_base.Paths.{IsName, is_absolute}
+use Rattle.law_allowed.specs.pr_base.declared.errno.Errno.{Errno}
+use Rattle.law_allowed.specs.pr_base.declared.errno.Errno.TheVariants.{EBADF, ENOENT, ENOTDIR}
 use Rattle.law_allowed.specs.kr_calls.PathTable.{PathUse}
 use Rattle.law_allowed.specs.kr_tree.Tree.{Tree, Inode, Body, Directory, RegularFile, SymbolicLink, ProcessDirectory, inode, body, body_is, is_directory, is_file}
 use Rattle.law_allowed.specs.kr_tree.declared.place.Host.{Host}

@@ -1,7 +1,7 @@
 -- What a call with its walks leaves of a state.
 use Rattle.std.proofs.Common.{◌≡◌, ◌≢◌, ℕ, suc, ◌<◌, ◌^◌, List, Option, Some, None, refl, sym, ap, subst, ◌∙◌, arith}
 use Rattle.std.specs.Prelude.{Ok, Err, IsSome}
-use Rattle.kr_seen.specs.pr_base.declared.errno.Errno.{Errno}
+use Rattle.law_allowed.specs.pr_base.declared.errno.Errno.{Errno}
 use Rattle.law_allowed.specs.kr_calls.declared.request.Request.{Request}
 use Rattle.law_allowed.specs.kr_tree.Tree.{Inode}
 use Rattle.law_allowed.specs.kr_view.View.{Row}
@@ -19,13 +19,13 @@ use Rattle.law_allowed.specs.Lasting.{Lasts}
 use Rattle.law_allowed.proofs.RoomLemmas.{lasting-room}
 use Rattle.law_allowed.specs.Calls.{HasTextPaths}
 use Rattle.law_allowed.specs.Told.{mounts_walked}
-use Rattle.kr_seen.specs.kr_ops.declared.state.State.{State}
-use Rattle.kr_seen.specs.kr_ops.Meaning.{meaning}
-use Rattle.kr_seen.specs.Numbered.{state_numbered}
-use Rattle.kr_seen.specs.CallWalks.{AreTargets}
-use Rattle.kr_seen.specs.declared.walks.Targets.{Targets}
-use Rattle.kr_seen.specs.Carrying.{IsCarriedOut}
-use Rattle.kr_seen.proofs.CarryLemmas.{by-refusal}
+use Rattle.kr_rows.specs.kr_ops.declared.state.State.{State}
+use Rattle.kr_rows.specs.kr_ops.Meaning.{meaning}
+use Rattle.kr_transfer.specs.kr_seen.Numbered.{state_numbered}
+use Rattle.kr_transfer.specs.kr_seen.CallWalks.{AreTargets}
+use Rattle.kr_transfer.specs.kr_seen.declared.walks.Targets.{Targets}
+use Rattle.kr_transfer.specs.kr_seen.Carrying.{IsCarriedOut}
+use Rattle.kr_transfer.proofs.kr_seen.CarryLemmas.{by-refusal}
 use Rattle.kr_perform.specs.Resolving.{AreTexts}
 use Rattle.kr_perform.specs.Operating.{HasNumbers, OperatesAt, mounts_at, placed_targets}
 use Rattle.kr_perform.specs.Lawful.{LastsLawful}

@@ -1,12 +1,12 @@
 -- Where a walk ends, by what its last component is, whatever components show.
 use Rattle.std.proofs.Common.{◌≡◌, ◌⊎◌, inl, inr, ℕ, zero, suc, Bool, true, false, ◌||◌, List, [], ◌∷◌, ◌++◌, Some, None, refl, sym, ◌∙◌}
 use Rattle.std.specs.Bool.{if◌then◌else◌}
-use Rattle.kr_seen.specs.pr_base.Paths.{Component, components_of, has_slash, kind_of}
-use Rattle.kr_seen.specs.pr_base.WalkFrame.{Seen, Fails, Missing, Leads, Links, Jumps, Looking, Landing, Target, Trail, Onward, fails, ends, begins_at, loops, is_followed, wants_directory, may_be_free, name_of, target_at, here, landed, ends_landed, jumps_on, in_middle, at_last, along, walk_on, walk, most_links}
-use Rattle.kr_seen.specs.pr_base.declared.errno.Errno.TheVariants.{ENOENT, ENOTDIR}
-use Rattle.kr_seen.specs.pr_base.declared.path.Last.TheVariants as last
-use Rattle.kr_seen.specs.pr_base.declared.path.WalkMode.{WalkMode}
-use Rattle.kr_seen.proofs.pr_base.EndLemmas.{EndsSo, failed, ended, either_way, lands, jumps}
+use Rattle.law_allowed.specs.pr_base.Paths.{Component, components_of, has_slash, kind_of}
+use Rattle.law_allowed.specs.pr_base.WalkFrame.{Seen, Fails, Missing, Leads, Links, Jumps, Looking, Landing, Target, Trail, Onward, fails, ends, begins_at, loops, is_followed, wants_directory, may_be_free, name_of, target_at, here, landed, ends_landed, jumps_on, in_middle, at_last, along, walk_on, walk, most_links}
+use Rattle.law_allowed.specs.pr_base.declared.errno.Errno.TheVariants.{ENOENT, ENOTDIR}
+use Rattle.law_allowed.specs.pr_base.declared.path.Last.TheVariants as last
+use Rattle.law_allowed.specs.pr_base.declared.path.WalkMode.{WalkMode}
+use Rattle.law_allowed.proofs.pr_base.EndLemmas.{EndsSo, failed, ended, either_way, lands, jumps}
 
 -- what holds of the last of some components, if there is any
 abbrev pub HasLast : (Component → Type 0) → List Component → Type 0

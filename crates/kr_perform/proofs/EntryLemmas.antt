@@ -4,10 +4,10 @@ use Rattle.std.specs.Bool.{if◌then◌else◌}
 use Rattle.std.specs.Option.{option_map, option_map_or}
 use Rattle.std.proofs.lemmas.Bool.{false≢true}
 use Rattle.std.proofs.lemmas.Option.{same_Some, none-some}
-use Rattle.kr_seen.specs.pr_base.Paths.{Name}
-use Rattle.kr_seen.specs.pr_base.WalkFrame.{Fails}
-use Rattle.kr_seen.specs.pr_base.WalkLaws.{Shows}
-use Rattle.kr_seen.specs.pr_base.declared.errno.Errno.TheVariants.{EACCES, ENOTDIR, ENAMETOOLONG}
+use Rattle.law_allowed.specs.pr_base.Paths.{Name}
+use Rattle.law_allowed.specs.pr_base.WalkFrame.{Fails}
+use Rattle.law_allowed.specs.pr_base.WalkLaws.{Shows}
+use Rattle.law_allowed.specs.pr_base.declared.errno.Errno.TheVariants.{EACCES, ENOTDIR, ENAMETOOLONG}
 use Rattle.kr_transfer.specs.kr_inode.declared.user.Right.TheVariants.{Search}
 use Rattle.law_allowed.specs.kr_tree.declared.place.Host.TheVariants.{Node}
 use Rattle.law_allowed.specs.kr_tree.declared.place.Place.{Place}

@@ -19,9 +19,9 @@ use Rattle.law_allowed.proofs.RoomLemmas.{lasting-room}
 use Rattle.law_allowed.specs.Allowed.{with_memory}
 use Rattle.law_allowed.specs.Resting.{HasSmallNumbers}
 use Rattle.law_allowed.proofs.OperationLemmas.{operation-is-allowed}
-use Rattle.kr_seen.specs.Carrying.{after_row, memory_of, no_memory}
-use Rattle.kr_seen.specs.kr_ops.Meaning.{meaning}
-use Rattle.kr_seen.specs.Numbered.{state_numbered}
+use Rattle.kr_transfer.specs.kr_seen.Carrying.{after_row, memory_of, no_memory}
+use Rattle.kr_rows.specs.kr_ops.Meaning.{meaning}
+use Rattle.kr_transfer.specs.kr_seen.Numbered.{state_numbered}
 use Rattle.kr_perform.specs.Lawful.{LastsLawful, PerformedLast}
 use Rattle.kr_perform.specs.Operating.{mounts_at, placed_targets}
 

@@ -1,7 +1,8 @@
 pub use Rattle.law_allowed.proofs.kr_model as kr_model
 pub use Rattle.law_allowed.proofs.law_lawful as law_lawful
 pub use Rattle.law_allowed.proofs as law_allowed
-pub use Rattle.kr_seen.proofs.kr_ops as kr_ops
+pub use Rattle.kr_rows.proofs.kr_ops as kr_ops
+pub use Rattle.kr_transfer.proofs.kr_seen as kr_seen
 pub use Rattle.kr_rows.proofs as kr_rows
 pub mod OperatingLemmas
 pub mod LawfulLemmas

@@ -2,9 +2,9 @@
 -- where those of the process directory lead.
 use Rattle.std.proofs.Common.{◌≡◌, ℕ, Bool, true, false, List, Option, Some, None, refl, subst}
 use Rattle.std.specs.Bool.{if◌then◌else◌}
-use Rattle.kr_seen.specs.pr_base.Paths.{Component, Dot, DotDot, Name}
-use Rattle.kr_seen.specs.pr_base.WalkFrame.{Fails, Missing, Leads, Links, Jumps, Landing}
-use Rattle.kr_seen.specs.pr_base.declared.errno.Errno.TheVariants.{ENOENT, EACCES, ENOTDIR, ENAMETOOLONG}
+use Rattle.law_allowed.specs.pr_base.Paths.{Component, Dot, DotDot, Name}
+use Rattle.law_allowed.specs.pr_base.WalkFrame.{Fails, Missing, Leads, Links, Jumps, Landing}
+use Rattle.law_allowed.specs.pr_base.declared.errno.Errno.TheVariants.{ENOENT, EACCES, ENOTDIR, ENAMETOOLONG}
 use Rattle.law_allowed.specs.kr_tree.declared.place.Host.{Host}
 use Rattle.law_allowed.specs.kr_tree.declared.place.Host.TheVariants.{Node, Proc}
 use Rattle.law_allowed.specs.kr_tree.declared.place.Place.{Place}

@@ -5,11 +5,11 @@ use Rattle.std.specs.Bool.{if◌then◌else◌}
 use Rattle.std.specs.List.{All}
 use Rattle.std.proofs.lemmas.List.Elements.{All-weaker}
 use Rattle.std.proofs.lemmas.Option.{same_Some}
-use Rattle.kr_seen.specs.pr_base.Paths.{Component, Dot, DotDot, IsName, Name}
-use Rattle.kr_seen.specs.pr_base.WalkFrame.{Landing}
-use Rattle.kr_seen.specs.pr_base.declared.path.Last.TheVariants as last
-use Rattle.kr_seen.specs.pr_base.declared.path.WalkMode.{WalkMode}
-use Rattle.kr_seen.proofs.pr_base.EndLemmas.{jump_is_shown}
+use Rattle.law_allowed.specs.pr_base.Paths.{Component, Dot, DotDot, IsName, Name}
+use Rattle.law_allowed.specs.pr_base.WalkFrame.{Landing}
+use Rattle.law_allowed.specs.pr_base.declared.path.Last.TheVariants as last
+use Rattle.law_allowed.specs.pr_base.declared.path.WalkMode.{WalkMode}
+use Rattle.law_allowed.proofs.pr_base.EndLemmas.{jump_is_shown}
 use Rattle.law_allowed.specs.kr_calls.PathTable.{PathUse, path_at}
 use Rattle.kr_transfer.proofs.kr_inode.NameLemmas.{name_decides}
 use Rattle.law_allowed.specs.kr_tree.declared.place.Place.{Place}

@@ -4,7 +4,7 @@ use Rattle.std.proofs.Common.{◌≡◌, ℕ, zero, suc, ◌+◌, ◌≤◌, Lis
 use Rattle.std.specs.Prelude.{IsSome, map as map_list, sum}
 use Rattle.std.specs.Option.{option_map, option_map_or}
 use Rattle.std.proofs.lemmas.List.{length-map}
-use Rattle.kr_seen.proofs.pr_base.MapLemmas.{get-mapped}
+use Rattle.law_allowed.proofs.pr_base.MapLemmas.{get-mapped}
 use Rattle.law_allowed.specs.kr_tree.declared.place.Place.{Place}
 use Rattle.law_allowed.proofs.kr_tree.NameLemmas.{map_some}
 use Rattle.law_allowed.specs.kr_view.InTree.{IsPlaceOf}
@@ -22,8 +22,8 @@ use Rattle.law_allowed.specs.kr_model.ProcessRows.{most_processes}
 use Rattle.law_allowed.specs.kr_model.State.{Image, Process, State, image_layout, process}
 use Rattle.law_allowed.specs.kr_model.Uses.{AreUses, at_inode, file_uses, names_of_file, process_use, process_uses, sum_to, uses_of}
 use Rattle.law_allowed.specs.kr_files.Descriptors.{named_count}
-use Rattle.kr_seen.specs.Numbered.{counted_numbered, opened_numbered, process_numbered, state_numbered, table_numbered}
-use Rattle.kr_seen.proofs.NumberedLemmas.{named-numbered, process-numbered}
+use Rattle.kr_transfer.specs.kr_seen.Numbered.{counted_numbered, opened_numbered, process_numbered, state_numbered, table_numbered}
+use Rattle.kr_transfer.proofs.kr_seen.NumberedLemmas.{named-numbered, process-numbered}
 
 map-map : {A B C : Type 0} (f : A → B) (g : B → C) (xs : List A) → map_list g (map_list f xs) ≡ map_list (λ x. g (f x)) xs
 map-map f g [] = refl

@@ -3,7 +3,7 @@ use Rattle.std.proofs.Common.{◌≡◌, ◌≤◌, ℕ, true, false, length, []
 use Rattle.std.specs.Prelude.{◌==◌}
 use Rattle.std.proofs.lemmas.Bool.Decides.{nat_tests}
 use Rattle.law_allowed.specs.kr_calls.declared.request.Request.{Request}
-use Rattle.kr_seen.specs.pr_base.declared.errno.Errno.TheVariants.{ENOENT}
+use Rattle.law_allowed.specs.pr_base.declared.errno.Errno.TheVariants.{ENOENT}
 use Rattle.law_allowed.specs.kr_view.View.{Row}
 use Rattle.law_allowed.specs.kr_view.declared.target.Target.{Target}
 use Rattle.law_allowed.specs.kr_model.Known.{Known, known}
@@ -14,12 +14,12 @@ use Rattle.law_allowed.specs.kr_model.State as model
 use Rattle.law_allowed.specs.kr_model.State.{Image, process}
 use Rattle.law_allowed.specs.kr_model.Walks.{told}
 use Rattle.law_allowed.specs.kr_model.declared.outcome.Outcome.{Outcome}
-use Rattle.kr_seen.specs.kr_ops.declared.state.State.{State}
-use Rattle.kr_seen.specs.kr_ops.Meaning.{meaning}
-use Rattle.kr_seen.specs.Numbered.{state_numbered}
-use Rattle.kr_seen.specs.Carrying.{CarriesOut}
-use Rattle.kr_seen.proofs.CarryLemmas.{by-refusal}
-use Rattle.kr_seen.specs.PerformedRows.{Performs}
+use Rattle.kr_rows.specs.kr_ops.declared.state.State.{State}
+use Rattle.kr_rows.specs.kr_ops.Meaning.{meaning}
+use Rattle.kr_transfer.specs.kr_seen.Numbered.{state_numbered}
+use Rattle.kr_transfer.specs.kr_seen.Carrying.{CarriesOut}
+use Rattle.kr_transfer.proofs.kr_seen.CarryLemmas.{by-refusal}
+use Rattle.kr_transfer.specs.kr_seen.PerformedRows.{Performs}
 use Rattle.law_allowed.specs.kr_model.Applied.{Mounts}
 use Rattle.kr_perform.specs.Operating.{OperatesAlone, OperatesAt, mounts_at, placed_targets}
 

@@ -1,7 +1,7 @@
 -- A call of which a walk fails.
 use Rattle.std.proofs.Common.{◌≡◌, ℕ, Bool, true, false, List, [], ◌∷◌, refl}
 use Rattle.std.specs.Prelude.{Err}
-use Rattle.kr_seen.specs.pr_base.declared.errno.Errno.{Errno}
+use Rattle.law_allowed.specs.pr_base.declared.errno.Errno.{Errno}
 use Rattle.law_allowed.specs.kr_calls.declared.request.Request.{Request}
 use Rattle.law_allowed.specs.kr_calls.declared.request.Request.TheVariants as call
 use Rattle.law_allowed.specs.kr_view.View.{Row}

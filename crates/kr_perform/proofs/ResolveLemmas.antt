@@ -4,12 +4,12 @@ use Rattle.std.specs.Prelude.{Ok}
 use Rattle.std.specs.Option.{option_map}
 use Rattle.std.proofs.lemmas.List.Elements.{All-weaker}
 use Rattle.std.proofs.lemmas.Option.{same_Some, none-some}
-use Rattle.kr_seen.specs.pr_base.Paths.{Name}
-use Rattle.kr_seen.specs.pr_base.WalkFrame.{is_followed, may_be_free}
-use Rattle.kr_seen.specs.pr_base.WalkLaws.{Shows}
-use Rattle.kr_seen.specs.pr_base.declared.path.Last.TheVariants as last
-use Rattle.kr_seen.specs.pr_base.declared.path.WalkMode.{WalkMode}
-use Rattle.kr_seen.specs.pr_base.declared.path.WalkMode.TheVariants as modes
+use Rattle.law_allowed.specs.pr_base.Paths.{Name}
+use Rattle.law_allowed.specs.pr_base.WalkFrame.{is_followed, may_be_free}
+use Rattle.law_allowed.specs.pr_base.WalkLaws.{Shows}
+use Rattle.law_allowed.specs.pr_base.declared.path.Last.TheVariants as last
+use Rattle.law_allowed.specs.pr_base.declared.path.WalkMode.{WalkMode}
+use Rattle.law_allowed.specs.pr_base.declared.path.WalkMode.TheVariants as modes
 use Rattle.law_allowed.specs.kr_calls.PathTable.{PathUse, path_at}
 use Rattle.kr_transfer.proofs.kr_inode.NameLemmas.{name_decides}
 use Rattle.law_allowed.specs.kr_tree.declared.place.Host.TheVariants.{Node}
@@ -30,9 +30,9 @@ use Rattle.law_allowed.specs.kr_model.Lawful.{IsLawful}
 use Rattle.law_allowed.specs.kr_model.ProcessDirectory.{around_of, leads_of}
 use Rattle.law_allowed.specs.kr_model.State.{Image, State}
 use Rattle.law_allowed.specs.kr_model.Walks.{target_at}
-use Rattle.kr_seen.specs.kr_ops.Meaning.{meaning}
-use Rattle.kr_seen.specs.Numbered.{state_numbered}
-use Rattle.kr_seen.specs.CallWalks.{IsTold}
+use Rattle.kr_rows.specs.kr_ops.Meaning.{meaning}
+use Rattle.kr_transfer.specs.kr_seen.Numbered.{state_numbered}
+use Rattle.kr_transfer.specs.kr_seen.CallWalks.{IsTold}
 use Rattle.kr_perform.specs.Resolving.{IsResolved, IsResolvedFor, IsText, LinksHaveTexts, WalksResolve}
 use Rattle.kr_perform.proofs.AroundLemmas.{both, leads_texts, of_walk}
 use Rattle.kr_perform.proofs.EndingLemmas.{free_comes, never_jumped}

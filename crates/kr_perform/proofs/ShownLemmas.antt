@@ -3,12 +3,12 @@ use Rattle.std.proofs.Common.{◌≡◌, ℕ, ◌≤◌, Bool, true, false, List
 use Rattle.std.specs.Prelude.{Ok}
 use Rattle.std.proofs.lemmas.Bool.Decides.{nat_tests}
 use Rattle.std.proofs.lemmas.Option.{none-some}
-use Rattle.kr_seen.specs.pr_base.Paths.{Component, Dot, DotDot, IsName, Name, kind_of}
-use Rattle.kr_seen.specs.pr_base.WalkFrame.{name_of}
-use Rattle.kr_seen.specs.pr_base.WalkLaws.{Shows}
-use Rattle.kr_seen.specs.pr_base.declared.path.Last.TheVariants as last
-use Rattle.kr_seen.specs.pr_base.declared.path.WalkMode.{WalkMode}
-use Rattle.kr_seen.proofs.pr_base.EndLemmas.{found_is_shown}
+use Rattle.law_allowed.specs.pr_base.Paths.{Component, Dot, DotDot, IsName, Name, kind_of}
+use Rattle.law_allowed.specs.pr_base.WalkFrame.{name_of}
+use Rattle.law_allowed.specs.pr_base.WalkLaws.{Shows}
+use Rattle.law_allowed.specs.pr_base.declared.path.Last.TheVariants as last
+use Rattle.law_allowed.specs.pr_base.declared.path.WalkMode.{WalkMode}
+use Rattle.law_allowed.proofs.pr_base.EndLemmas.{found_is_shown}
 use Rattle.law_allowed.specs.kr_tree.declared.place.Place.{Place}
 use Rattle.law_allowed.specs.kr_view.Component.{Surroundings, look_up, is_directory_at, may_search, named_in, too_long}
 use Rattle.law_allowed.specs.kr_view.Walk.{PlaceTarget, looking, place_walk}

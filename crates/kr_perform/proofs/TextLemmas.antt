@@ -6,9 +6,9 @@ use Rattle.std.specs.Fmt.{decimal, digit_glyph, digits_onto, digits}
 use Rattle.std.specs.List.{All, AllByRecursion, slice_split, onto_first}
 use Rattle.std.specs.Str.{bytes_eq}
 use Rattle.std.proofs.lemmas.List.Elements.{All-cons, All-nil, All-head, All-tail, recursion_from_All}
-use Rattle.kr_seen.specs.pr_base.Paths.{Component, Dot, DotDot, Name, IsComponent, component_of, components_of, dot, dot_dot, is_slash, not_empty, parts_of}
-use Rattle.kr_seen.specs.pr_base.WalkFrame.{name_of}
-use Rattle.kr_seen.proofs.pr_base.PathLemmas.{paths_have_components}
+use Rattle.law_allowed.specs.pr_base.Paths.{Component, Dot, DotDot, Name, IsComponent, component_of, components_of, dot, dot_dot, is_slash, not_empty, parts_of}
+use Rattle.law_allowed.specs.pr_base.WalkFrame.{name_of}
+use Rattle.law_allowed.proofs.pr_base.PathLemmas.{paths_have_components}
 use Rattle.law_allowed.specs.kr_tree.Lawful.{AreBytes}
 use Rattle.law_allowed.specs.Texts.{IsText}
 use Rattle.kr_perform.proofs.EndingLemmas.{HasLast}

@@ -14,8 +14,8 @@ use Rattle.law_allowed.specs.kr_view.Walk.{PlaceTarget}
 use Rattle.law_allowed.specs.kr_model.Seen.{Seen, NoPath}
 use Rattle.law_allowed.specs.kr_model.State.{State}
 use Rattle.law_allowed.specs.kr_model.Walks.{Targets, told, told_by, mounts_of}
-use Rattle.kr_seen.specs.CallWalks.{IsTold}
-use Rattle.kr_seen.specs.Placed.{placed}
+use Rattle.kr_transfer.specs.kr_seen.CallWalks.{IsTold}
+use Rattle.kr_transfer.specs.kr_seen.Placed.{placed}
 use Rattle.kr_perform.specs.Operating.{mounts_at, placed_targets}
 use Rattle.kr_perform.specs.Calling.{mounts_numbered}
 

@@ -15,10 +15,10 @@ use Rattle.law_allowed.specs.kr_model.Walks.{mounts_of, told}
 use Rattle.law_allowed.specs.Told.{AreTargetsIn, IsEntryOf, IsTargetIn}
 use Rattle.law_allowed.proofs.TargetLemmas.{calls-walk-to-targets}
 use Rattle.law_allowed.proofs.ToldLemmas.{targets-are-told}
-use Rattle.kr_seen.specs.kr_ops.Meaning.{meaning}
-use Rattle.kr_seen.specs.Numbered.{state_numbered}
-use Rattle.kr_seen.specs.CallWalks.{IsTold}
-use Rattle.kr_seen.specs.Placed.{placed, placed_in}
+use Rattle.kr_rows.specs.kr_ops.Meaning.{meaning}
+use Rattle.kr_transfer.specs.kr_seen.Numbered.{state_numbered}
+use Rattle.kr_transfer.specs.kr_seen.CallWalks.{IsTold}
+use Rattle.kr_transfer.specs.kr_seen.Placed.{placed, placed_in}
 use Rattle.kr_perform.proofs.LawfulLemmas.{lawful_numbered, lead_to_places, walks_name}
 use Rattle.kr_perform.specs.Operating.{mounts_at, placed_targets}
 use Rattle.kr_perform.specs.Walked.{ResolvedAreTold}

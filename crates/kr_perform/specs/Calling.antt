@@ -10,11 +10,11 @@ use Rattle.law_allowed.specs.kr_model.Walks.{targets_of, seen}
 use Rattle.law_allowed.specs.kr_model.declared.outcome.Outcome.{Outcome}
 use Rattle.law_allowed.specs.Calls.{HasTextPaths, IsGivable}
 use Rattle.law_allowed.specs.Told.{SourcesAreNamed, mounts_walked}
-use Rattle.kr_seen.specs.kr_ops.declared.state.State.{State}
-use Rattle.kr_seen.specs.kr_ops.Meaning.{meaning}
-use Rattle.kr_seen.specs.kr_ops.Sound.{IsServed}
-use Rattle.kr_seen.specs.Numbered.{state_numbered}
-use Rattle.kr_seen.specs.Carrying.{IsCarriedOut}
+use Rattle.kr_rows.specs.kr_ops.declared.state.State.{State}
+use Rattle.kr_rows.specs.kr_ops.Meaning.{meaning}
+use Rattle.kr_rows.specs.kr_ops.Sound.{IsServed}
+use Rattle.kr_transfer.specs.kr_seen.Numbered.{state_numbered}
+use Rattle.kr_transfer.specs.kr_seen.Carrying.{IsCarriedOut}
 use Rattle.kr_perform.specs.Lawful.{LastsLawful}
 
 -- a request whose arguments can be given, and whose paths are texts

@@ -12,9 +12,9 @@ use Rattle.law_allowed.specs.kr_model.declared.outcome.Outcome.{Outcome}
 use Rattle.law_allowed.specs.kr_model.declared.outcome.Outcome.TheVariants.{NoMemory}
 use Rattle.law_allowed.specs.Lasting.{Lasts}
 use Rattle.law_allowed.specs.Calls.{IsGivable, IsToldIn}
-use Rattle.kr_seen.specs.kr_ops.declared.state.State.{State}
-use Rattle.kr_seen.specs.kr_ops.Meaning.{meaning}
-use Rattle.kr_seen.specs.Numbered.{state_numbered}
+use Rattle.kr_rows.specs.kr_ops.declared.state.State.{State}
+use Rattle.kr_rows.specs.kr_ops.Meaning.{meaning}
+use Rattle.kr_transfer.specs.kr_seen.Numbered.{state_numbered}
 use Rattle.kr_perform.specs.Operating.{OperatesAt, mounts_at, placed_targets}
 
 -- a lawful state in which lasts what calls keep, after `calls` of them

@@ -13,12 +13,12 @@ use Rattle.law_allowed.specs.kr_model.Operation.{operation}
 use Rattle.law_allowed.specs.kr_model.Seen.{Seen}
 use Rattle.law_allowed.specs.kr_model.Walks.{Targets, told}
 use Rattle.law_allowed.specs.kr_model.declared.outcome.Outcome.{Outcome}
-use Rattle.kr_seen.specs.kr_ops.declared.state.State.{State}
-use Rattle.kr_seen.specs.kr_ops.Meaning.{meaning}
-use Rattle.kr_seen.specs.Numbered.{state_numbered}
-use Rattle.kr_seen.specs.Carrying.{CarriesOut}
-use Rattle.kr_seen.specs.Placed.{placed_in}
-use Rattle.kr_seen.specs.PerformedRows.{Performs}
+use Rattle.kr_rows.specs.kr_ops.declared.state.State.{State}
+use Rattle.kr_rows.specs.kr_ops.Meaning.{meaning}
+use Rattle.kr_transfer.specs.kr_seen.Numbered.{state_numbered}
+use Rattle.kr_transfer.specs.kr_seen.Carrying.{CarriesOut}
+use Rattle.kr_transfer.specs.kr_seen.Placed.{placed_in}
+use Rattle.kr_transfer.specs.kr_seen.PerformedRows.{Performs}
 
 -- ---- kinds of requests
 

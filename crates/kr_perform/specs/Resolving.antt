@@ -1,7 +1,7 @@
 -- What calls rest on of the targets of their paths, and that walks over a lawful state give it.
 use Rattle.std.specs.Prelude.{ℕ, ◌≡◌, List, Option, Some, None, Ok, IsSome}
-use Rattle.kr_seen.specs.pr_base.declared.path.WalkMode.{WalkMode}
-use Rattle.kr_seen.specs.pr_base.declared.path.WalkMode.TheVariants.{Name, Open}
+use Rattle.law_allowed.specs.pr_base.declared.path.WalkMode.{WalkMode}
+use Rattle.law_allowed.specs.pr_base.declared.path.WalkMode.TheVariants.{Name, Open}
 use Rattle.law_allowed.specs.kr_calls.PathTable.{PathUse, path_at}
 use Rattle.law_allowed.specs.kr_calls.declared.request.Request.{Request}
 use Rattle.law_allowed.specs.kr_tree.Tree.{Tree}
@@ -10,13 +10,13 @@ use Rattle.law_allowed.specs.kr_view.declared.target.Target.{Target}
 use Rattle.law_allowed.specs.kr_model.Lawful.{IsLawful}
 use Rattle.law_allowed.specs.kr_model.State.{process}
 use Rattle.law_allowed.specs.kr_model.Walks.{targets_of}
-use Rattle.kr_seen.specs.kr_ops.declared.state.State.{State}
-use Rattle.kr_seen.specs.kr_ops.Meaning.{meaning}
-use Rattle.kr_seen.specs.kr_ops.Sound.{IsServed}
-use Rattle.kr_seen.specs.Numbered.{state_numbered}
-use Rattle.kr_seen.specs.CallWalks.{AreTargets}
-use Rattle.kr_seen.specs.declared.walks.Targets.{Targets}
-use Rattle.kr_seen.specs.Resolved.{IsFoundIn, IsFreeIn, IsEntryIn}
+use Rattle.kr_rows.specs.kr_ops.declared.state.State.{State}
+use Rattle.kr_rows.specs.kr_ops.Meaning.{meaning}
+use Rattle.kr_rows.specs.kr_ops.Sound.{IsServed}
+use Rattle.kr_transfer.specs.kr_seen.Numbered.{state_numbered}
+use Rattle.kr_transfer.specs.kr_seen.CallWalks.{AreTargets}
+use Rattle.kr_transfer.specs.kr_seen.declared.walks.Targets.{Targets}
+use Rattle.kr_transfer.specs.kr_seen.Resolved.{IsFoundIn, IsFreeIn, IsEntryIn}
 pub use Rattle.law_allowed.specs.Texts.{IsText, LinksHaveTexts}
 
 -- ---- texts

@@ -9,11 +9,11 @@ use Rattle.law_allowed.specs.kr_model.Walks.{targets_of, told}
 use Rattle.law_allowed.specs.Texts.{IsText, LinksHaveTexts}
 use Rattle.law_allowed.specs.Calls.{IsToldIn}
 use Rattle.law_allowed.specs.Told.{SourcesAreNamed}
-use Rattle.kr_seen.specs.kr_ops.declared.state.State.{State}
-use Rattle.kr_seen.specs.kr_ops.Meaning.{meaning}
-use Rattle.kr_seen.specs.Numbered.{state_numbered}
-use Rattle.kr_seen.specs.CallWalks.{AreTargets}
-use Rattle.kr_seen.specs.declared.walks.Targets.{Targets}
+use Rattle.kr_rows.specs.kr_ops.declared.state.State.{State}
+use Rattle.kr_rows.specs.kr_ops.Meaning.{meaning}
+use Rattle.kr_transfer.specs.kr_seen.Numbered.{state_numbered}
+use Rattle.kr_transfer.specs.kr_seen.CallWalks.{AreTargets}
+use Rattle.kr_transfer.specs.kr_seen.declared.walks.Targets.{Targets}
 use Rattle.kr_perform.specs.Operating.{mounts_at, placed_targets}
 
 -- what a call is told of the targets to which its paths were walked is so, in the mounts of the machine: where paths are texts of

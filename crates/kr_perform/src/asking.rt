@@ -3,13 +3,13 @@ ghost use Rattle.std.specs.Prelude.{◌≢◌, ◌∷◌, ℕ, ℤ, List, IfSome
 ghost use Rattle.law_allowed.specs.kr_calls.declared.request.Request.TheVariants as call;
 ghost use Rattle.law_allowed.specs.kr_view.View.{Row};
 ghost use Rattle.law_allowed.specs.kr_model.declared.outcome.Outcome.TheVariants.{NoMemory as WantOfMemory};
-ghost use Rattle.kr_seen.specs.kr_ops.Sound.{IsLawfulFor, IsServed, IsSound, IsSoundFor};
-ghost use Rattle.kr_seen.specs.Resolved.{IsFoundIn};
+ghost use Rattle.kr_rows.specs.kr_ops.Sound.{IsLawfulFor, IsServed, IsSound, IsSoundFor};
+ghost use Rattle.kr_transfer.specs.kr_seen.Resolved.{IsFoundIn};
 ghost use Rattle.kr_perform.specs.Operating.{OperatesAt};
 
 use kr_attributes::{directories, links, modes, owners, rights, stats};
-use kr_seen::below::{Errno, State, lawful_states_are_sound};
-use kr_seen::{Targets, refused};
+use kr_rows::answer::refused;
+use kr_rows::below::{Errno, State, Targets, lawful_states_are_sound};
 use law_allowed::below::{Outcome, Places};
 
 /// chdir(2).

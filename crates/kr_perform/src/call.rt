@@ -3,17 +3,17 @@ ghost use Rattle.std.specs.Prelude.{◌≡◌, ◌≢◌, ◌<◌, ◌^◌, ℕ,
 ghost use Rattle.law_allowed.specs.Allowed.{HoldsBytes};
 ghost use Rattle.law_allowed.specs.kr_model.State.{Image, Process, process};
 ghost use Rattle.law_allowed.specs.kr_model.declared.outcome.Outcome.TheVariants.{NoMemory as WantOfMemory};
-ghost use Rattle.kr_seen.specs.kr_ops.Meaning.{meaning};
-ghost use Rattle.kr_seen.specs.kr_ops.Sound.{IsSound};
-ghost use Rattle.kr_seen.specs.Numbered.{state_numbered};
+ghost use Rattle.kr_rows.specs.kr_ops.Meaning.{meaning};
+ghost use Rattle.kr_rows.specs.kr_ops.Sound.{IsSound};
+ghost use Rattle.kr_transfer.specs.kr_seen.Numbered.{state_numbered};
 ghost use Rattle.law_allowed.specs.kr_model.Walks.{targets_of};
-ghost use Rattle.kr_seen.specs.CallWalks.{call_reach, AreTargets};
+ghost use Rattle.kr_transfer.specs.kr_seen.CallWalks.{call_reach, AreTargets};
 ghost use Rattle.kr_perform.specs.Operating.{IsNoExec};
 ghost use Rattle.kr_perform.specs.Calling.{CanBeMade, CanCall, IsCalled, Runs};
 
 use crate::perform;
-use kr_seen::below::{State, lawful_states_are_sound};
-use kr_seen::{Targets, refused, walk_paths};
+use kr_rows::answer::refused;
+use kr_rows::below::{State, Targets, lawful_states_are_sound, walk_paths};
 use law_allowed::below::{Outcome, Places, Reach, Request, Use, WalkFault};
 use std::alloc::Global;
 

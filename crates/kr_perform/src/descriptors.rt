@@ -2,7 +2,7 @@
 ghost use Rattle.std.specs.Prelude.{◌≢◌};
 ghost use Rattle.law_allowed.specs.kr_model.declared.outcome.Outcome.TheVariants.{NoMemory as WantOfMemory};
 ghost use Rattle.law_allowed.specs.Calls.{IsGivable};
-ghost use Rattle.kr_seen.specs.kr_ops.Sound.{IsOfViewFor, IsServed};
+ghost use Rattle.kr_rows.specs.kr_ops.Sound.{IsOfViewFor, IsServed};
 ghost use Rattle.kr_perform.specs.Operating.{HasNumbers, IsAlone, OperatesAlone};
 
 use crate::processes;
@@ -10,10 +10,10 @@ use kr_attributes::directories::fchdir;
 use kr_attributes::modes::fchmod;
 use kr_attributes::owners::fchown;
 use kr_attributes::stats::fstat;
+use kr_rows::below::{State, lawful_states_are_sound};
 use kr_rows::descriptors::{close, dup, dup3, ioctl, pipe2};
 use kr_rows::fcntl::fcntl;
 use kr_rows::seeking::lseek;
-use kr_seen::below::{State, lawful_states_are_sound};
 use kr_transfer::entries::getdents64;
 use kr_transfer::reading::{read, readv};
 use kr_transfer::sizes::ftruncate;

@@ -4,13 +4,13 @@ ghost use Rattle.law_allowed.specs.kr_calls.declared.request.Request.TheVariants
 ghost use Rattle.law_allowed.specs.kr_tree.Lawful.{IsSound as IsSoundTree};
 ghost use Rattle.law_allowed.specs.kr_view.View.{Row};
 ghost use Rattle.law_allowed.specs.kr_model.declared.outcome.Outcome.TheVariants.{NoMemory as WantOfMemory};
-ghost use Rattle.kr_seen.specs.kr_ops.Sound.{IsLawfulFor, IsServed, IsSound, IsSoundFor};
-ghost use Rattle.kr_seen.specs.Resolved.{IsEntryIn, IsFoundIn, IsFreeIn};
+ghost use Rattle.kr_rows.specs.kr_ops.Sound.{IsLawfulFor, IsServed, IsSound, IsSoundFor};
+ghost use Rattle.kr_transfer.specs.kr_seen.Resolved.{IsEntryIn, IsFoundIn, IsFreeIn};
 ghost use Rattle.kr_perform.specs.Operating.{HasNumbers, OperatesAt};
 
 use kr_names::{linking, making, moving, opening, removing};
-use kr_seen::below::{Bytes, Errno, NoMemory, State, lawful_states_are_sound};
-use kr_seen::{Targets, refused};
+use kr_rows::answer::refused;
+use kr_rows::below::{Bytes, Errno, NoMemory, State, Targets, lawful_states_are_sound};
 use law_allowed::below::{Outcome, Places};
 use std::alloc::Global;
 

@@ -2,14 +2,13 @@
 ghost use Rattle.std.specs.Prelude.{◌≢◌};
 ghost use Rattle.law_allowed.specs.kr_model.declared.outcome.Outcome.TheVariants.{NoMemory as WantOfMemory};
 ghost use Rattle.law_allowed.specs.Calls.{IsGivable};
-ghost use Rattle.kr_seen.specs.kr_ops.Sound.{IsLawfulFor, IsServed};
+ghost use Rattle.kr_rows.specs.kr_ops.Sound.{IsLawfulFor, IsServed};
 ghost use Rattle.kr_perform.specs.Resolving.{AreResolved};
 ghost use Rattle.kr_perform.specs.Operating.{HasNumbers, IsNoExec, OperatesAt};
 
 use crate::{asking, descriptors, naming};
 use kr_attributes::names::getcwd;
-use kr_seen::Targets;
-use kr_seen::below::{State, lawful_states_are_sound};
+use kr_rows::below::{State, Targets, lawful_states_are_sound};
 use law_allowed::below::{Outcome, Places, Request};
 use std::alloc::Global;
 

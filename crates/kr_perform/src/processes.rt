@@ -1,11 +1,11 @@
 //! Calls on the caller, its pages and its user.
 ghost use Rattle.std.specs.Prelude.{◌≢◌};
 ghost use Rattle.law_allowed.specs.kr_model.declared.outcome.Outcome.TheVariants.{NoMemory as WantOfMemory};
-ghost use Rattle.kr_seen.specs.kr_ops.Sound.{IsOfViewFor, IsServed};
+ghost use Rattle.kr_rows.specs.kr_ops.Sound.{IsOfViewFor, IsServed};
 ghost use Rattle.kr_perform.specs.Operating.{HasNumbers, IsOfProcess, OperatesAlone};
 
+use kr_rows::below::{State, lawful_states_are_sound};
 use kr_rows::{ending, forking, identity, memory, processes, system};
-use kr_seen::below::{State, lawful_states_are_sound};
 use law_allowed::below::{Outcome, Request};
 
 /// Carries out a call that names neither a path nor a descriptor.

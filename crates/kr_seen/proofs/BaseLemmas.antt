@@ -3,11 +3,11 @@ use Rattle.std.proofs.Common.{◌≡◌, ℕ, Bool, true, false, cond, Option, S
 use Rattle.std.specs.Prelude.{List, Result, Ok, Err}
 use Rattle.std.specs.Bool.{if◌then◌else◌}
 use Rattle.std.proofs.lemmas.Option.{none-some, same_Some}
-use Rattle.pr_base.specs.Paths.{is_absolute}
+use Rattle.kr_ops.specs.pr_base.Paths.{is_absolute}
 use Rattle.kr_ops.specs.kr_calls.PathTable.{PathUse}
 use Rattle.std.specs.Option.{option_map, option_map_or}
-use Rattle.pr_base.specs.declared.errno.Errno.{Errno}
-use Rattle.pr_base.specs.declared.errno.Errno.TheVariants.{EBADF, ENOENT, ENOTDIR}
+use Rattle.kr_ops.specs.pr_base.declared.errno.Errno.{Errno}
+use Rattle.kr_ops.specs.pr_base.declared.errno.Errno.TheVariants.{EBADF, ENOENT, ENOTDIR}
 use Rattle.kr_ops.specs.kr_tree.declared.place.Place.{Place}
 use Rattle.kr_ops.specs.kr_view.Leads.{numbered}
 use Rattle.kr_ops.specs.kr_view.View.{Row, root_place}

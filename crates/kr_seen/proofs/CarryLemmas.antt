@@ -14,7 +14,7 @@ use Rattle.kr_ops.specs.kr_model.Lawful.{ArePids, RiseFrom}
 use Rattle.kr_ops.specs.kr_model.Reply.{Reply, Replying, refusal, refuse}
 use Rattle.kr_ops.specs.kr_model.State as model
 use Rattle.kr_ops.specs.kr_model.declared.outcome.Outcome.{Outcome}
-use Rattle.pr_base.specs.declared.errno.Errno.{Errno}
+use Rattle.kr_ops.specs.pr_base.declared.errno.Errno.{Errno}
 use Rattle.kr_ops.specs.declared.state.State.{State}
 use Rattle.kr_ops.specs.Meaning.{meaning}
 use Rattle.kr_seen.specs.Carrying.{IsCarriedOut, after_row, carried, memory_of, no_memory, with_memory, with_memory_of}

@@ -5,7 +5,7 @@ use Rattle.std.specs.Prelude.{map as map_list, ◌==◌}
 use Rattle.std.specs.List.{filter}
 use Rattle.std.specs.Option.{option_map, option_map_or, option_and_then}
 use Rattle.std.proofs.lemmas.List.{map-append}
-use Rattle.pr_base.specs.Maps.{changed}
+use Rattle.kr_ops.specs.pr_base.Maps.{changed}
 use Rattle.kr_ops.specs.kr_tree.Tree.{Tree}
 use Rattle.kr_ops.specs.kr_tree.Changes as tree
 use Rattle.kr_ops.specs.kr_tree.declared.place.Host.{Host}

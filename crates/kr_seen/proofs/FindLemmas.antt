@@ -13,7 +13,7 @@ use Rattle.std.proofs.lemmas.Bool.Decides.{nat_tests}
 use Rattle.std.proofs.lemmas.Option.{same_Some, none-some}
 use Rattle.std.proofs.lemmas.Slice.Eq.{bytes_eq-Decides}
 use lib.Dec.{T}
-use Rattle.pr_base.proofs.MapLemmas.{ties-same, ties-other}
+use Rattle.kr_ops.proofs.pr_base.MapLemmas.{ties-same, ties-other}
 use Rattle.kr_ops.specs.kr_tree.declared.place.ProcAt.TheVariants.{SelfLink, Dir, FdDir, Fd}
 use Rattle.kr_ops.specs.kr_view.Living.{Living, Each, first, finds_among, in_directory, names_number}
 use Rattle.kr_ops.specs.kr_view.View.{is_there}

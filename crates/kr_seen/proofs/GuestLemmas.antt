@@ -5,7 +5,7 @@ use Rattle.std.specs.Option.{option_map, option_map_or, option_and_then}
 use Rattle.std.proofs.lemmas.Bool.{eqb-true, false≢true}
 use Rattle.std.proofs.lemmas.List.Elements.{All-nil, All-cons, All-head, All-tail, All-append}
 use Rattle.std.proofs.lemmas.Option.{same_Some, none-some}
-use Rattle.pr_base.specs.Paths.{text_of, IsName, AreNames}
+use Rattle.kr_ops.specs.pr_base.Paths.{text_of, IsName, AreNames}
 use Rattle.kr_ops.specs.kr_tree.Lawful.{IsSound}
 use Rattle.kr_ops.specs.kr_tree.Names.{host_name, process_names}
 use Rattle.kr_ops.specs.kr_tree.Tree.{Tree, Inode, inode, Body, Directory, RegularFile, SymbolicLink, ProcessDirectory, body, body_is, is_directory}

@@ -1,4 +1,4 @@
-pub use Rattle.pr_base.proofs as pr_base
+pub use Rattle.kr_ops.proofs.pr_base as pr_base
 pub use Rattle.kr_ops.proofs.rv_mem as rv_mem
 pub use Rattle.kr_ops.proofs.kr_inode as kr_inode
 pub use Rattle.kr_ops.proofs.kr_tree as kr_tree

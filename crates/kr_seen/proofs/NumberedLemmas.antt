@@ -4,7 +4,7 @@ use Rattle.std.proofs.Common.{◌≡◌, ℕ, Bool, true, false, cond, List, [],
 use Rattle.std.specs.Prelude.{map as map_list}
 use Rattle.std.specs.List.{find}
 use Rattle.std.specs.Option.{option_map, option_and_then}
-use Rattle.pr_base.proofs.MapLemmas.{get-mapped}
+use Rattle.kr_walk.specs.kr_inode.GroundLemmas.{get-mapped}
 use Rattle.kr_ops.specs.kr_view.Living.{Living, finds_among}
 use Rattle.kr_ops.specs.kr_files.Descriptors.{Named}
 use Rattle.kr_ops.specs.kr_files.Files.{Counted, file_at}

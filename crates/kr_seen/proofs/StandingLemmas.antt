@@ -7,7 +7,7 @@ use Rattle.std.specs.Bool.{if◌then◌else◌}
 use Rattle.std.specs.Option.{option_map, option_map_or, option_and_then}
 use Rattle.std.proofs.lemmas.Bool.{false≢true}
 use Rattle.std.proofs.lemmas.Option.{same_Some, none-some}
-use Rattle.pr_base.specs.Paths.{IsName}
+use Rattle.kr_ops.specs.pr_base.Paths.{IsName}
 use Rattle.kr_ops.specs.kr_tree.Tree.{Tree, Inode, inode, Body, Directory, RegularFile, SymbolicLink, ProcessDirectory, body, body_is, is_directory, is_file}
 use Rattle.kr_ops.specs.kr_tree.declared.place.Host.{Host}
 use Rattle.kr_ops.specs.kr_tree.declared.place.Host.TheVariants.{Node, Proc}

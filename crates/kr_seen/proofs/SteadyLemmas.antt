@@ -5,16 +5,16 @@ use Rattle.std.specs.Option.{option_and_then, option_map}
 use Rattle.std.specs.Prelude.{position}
 use Rattle.std.proofs.lemmas.Bool.{not-true, or_parts}
 use Rattle.std.proofs.lemmas.List.Elements.{All-nil, All-cons}
-use Rattle.pr_base.specs.Paths.{Component, Dot, DotDot, Name}
-use Rattle.pr_base.specs.WalkFrame.{Fails, Missing, Leads, Links, Jumps, Landing, LookedAt}
-use Rattle.pr_base.specs.WalkLaws.{Shows}
-use Rattle.pr_base.specs.KeptWalks.{GoesOn}
-use Rattle.pr_base.specs.declared.errno.Errno.{Errno}
-use Rattle.pr_base.specs.declared.errno.Errno.TheVariants.{EACCES, ENAMETOOLONG, ENOENT, ENOTDIR}
-use Rattle.pr_base.specs.declared.path.WalkMode.{WalkMode}
-use Rattle.pr_base.specs.declared.path.WalkMode.TheVariants.{LookLink}
-use Rattle.pr_base.specs.declared.peeks.PeekKind.TheVariants.{Jump}
-use Rattle.pr_base.proofs.KeptWalkLemmas.{path_well}
+use Rattle.kr_ops.specs.pr_base.Paths.{Component, Dot, DotDot, Name}
+use Rattle.kr_ops.specs.pr_base.WalkFrame.{Fails, Missing, Leads, Links, Jumps, Landing, LookedAt}
+use Rattle.kr_ops.specs.pr_base.WalkLaws.{Shows}
+use Rattle.kr_ops.specs.pr_base.KeptWalks.{GoesOn}
+use Rattle.kr_ops.specs.pr_base.declared.errno.Errno.{Errno}
+use Rattle.kr_ops.specs.pr_base.declared.errno.Errno.TheVariants.{EACCES, ENAMETOOLONG, ENOENT, ENOTDIR}
+use Rattle.kr_ops.specs.pr_base.declared.path.WalkMode.{WalkMode}
+use Rattle.kr_ops.specs.pr_base.declared.path.WalkMode.TheVariants.{LookLink}
+use Rattle.kr_ops.specs.pr_base.declared.peeks.PeekKind.TheVariants.{Jump}
+use Rattle.kr_walk.specs.kr_inode.GroundLemmas.{path_well}
 use Rattle.kr_ops.specs.kr_tree.declared.place.Host.{Host}
 use Rattle.kr_ops.specs.kr_tree.declared.place.Host.TheVariants.{Node}
 use Rattle.kr_ops.specs.kr_tree.declared.place.Place.{Place}

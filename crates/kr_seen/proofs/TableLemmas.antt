@@ -5,8 +5,8 @@ use Rattle.std.specs.Prelude.{map as map_list}
 use Rattle.std.specs.List.{list_any}
 use Rattle.std.specs.Option.{option_map, option_map_or, option_and_then}
 use Rattle.std.specs.Ordering.{nat_cmp}
-use Rattle.pr_base.specs.Maps.{mapped}
-use Rattle.pr_base.proofs.MapLemmas.{entries-mapped, get-mapped, mapped-insert, mapped-remove}
+use Rattle.kr_ops.specs.pr_base.Maps.{mapped}
+use Rattle.kr_ops.proofs.pr_base.MapLemmas.{entries-mapped, get-mapped, mapped-insert, mapped-remove}
 use Rattle.kr_ops.specs.kr_view.Leads.{numbered}
 use Rattle.kr_ops.specs.kr_files.declared.opened.Opened.{Opened}
 use Rattle.kr_ops.specs.kr_files.declared.opened.What.{What}

@@ -1,8 +1,8 @@
 -- The walks of a call over a state in code are those over the state with the numbers of its mounts.
 use Rattle.std.proofs.Common.{◌≡◌, ℕ, true, false, List, [], ◌∷◌, length, Option, Some, None, refl, sym, ap, subst, ◌∙◌}
 use Rattle.std.specs.Prelude.{Result, Ok, Err, ◌==◌}
-use Rattle.pr_base.specs.declared.errno.Errno.{Errno}
-use Rattle.pr_base.specs.declared.path.WalkMode.{WalkMode}
+use Rattle.kr_ops.specs.pr_base.declared.errno.Errno.{Errno}
+use Rattle.kr_ops.specs.pr_base.declared.path.WalkMode.{WalkMode}
 use Rattle.kr_ops.specs.kr_calls.PathTable.{PathUse, path_at}
 use Rattle.kr_ops.specs.kr_calls.declared.request.Request.{Request}
 use Rattle.kr_ops.specs.kr_tree.declared.place.Place.{Place}

@@ -18,7 +18,7 @@ use Rattle.kr_ops.specs.kr_model.Applied.{Mounts, all_applied, images, with_imag
 use Rattle.kr_ops.specs.kr_model.Known.{Family, Known, caller_of, family_of, known, no_caller, pages_in_all}
 use Rattle.kr_ops.specs.kr_model.Lawful.{ArePids}
 use Rattle.kr_ops.specs.kr_model.Reply.{Reply, Replying, refusal, refuse}
-use Rattle.pr_base.specs.declared.errno.Errno.{Errno}
+use Rattle.kr_ops.specs.pr_base.declared.errno.Errno.{Errno}
 use Rattle.kr_ops.specs.kr_model.ProcessRows.{null_or_writable, unless_null}
 use Rattle.kr_ops.specs.kr_model.State as model
 use Rattle.kr_ops.specs.kr_model.Uses.{AreUses, file_uses, process_use}

@@ -1,6 +1,6 @@
 -- What the code answers of a directory that is to be changed.
 use Rattle.std.specs.Prelude.{ℕ, ◌≡◌, true, Some, Result, Ok, Err}
-use Rattle.pr_base.specs.declared.errno.Errno.{Errno}
+use Rattle.kr_ops.specs.pr_base.declared.errno.Errno.{Errno}
 use Rattle.kr_ops.specs.kr_tree.declared.place.Host.{Host}
 use Rattle.kr_ops.specs.kr_tree.declared.place.Host.TheVariants as host
 use Rattle.kr_ops.specs.kr_tree.Tree.{Node, takes_names}

@@ -1,7 +1,7 @@
 -- The walks of a call's paths over a state in code: what is answered of them, and what they reach.
 use Rattle.std.specs.Prelude.{◌≡◌, ℕ, List, [], ◌∷◌, Option, Some, None, Result, Ok, Err}
 use Rattle.std.specs.Option.{option_map}
-use Rattle.pr_base.specs.declared.errno.Errno.{Errno}
+use Rattle.kr_ops.specs.pr_base.declared.errno.Errno.{Errno}
 use Rattle.kr_ops.specs.kr_calls.PathTable.{PathUse, path_at}
 use Rattle.kr_ops.specs.kr_calls.declared.request.Request.{Request}
 use Rattle.kr_ops.specs.kr_tree.declared.place.Place.{Place}

@@ -1,4 +1,4 @@
-pub use Rattle.pr_base.specs as pr_base
+pub use Rattle.kr_ops.specs.pr_base as pr_base
 pub use Rattle.kr_ops.specs.rv_mem as rv_mem
 pub use Rattle.kr_ops.specs.kr_inode as kr_inode
 pub use Rattle.kr_ops.specs.kr_tree as kr_tree

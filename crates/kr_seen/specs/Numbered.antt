@@ -1,7 +1,7 @@
 -- A state whose mounts are told by their numbers in the view.
 use Rattle.std.specs.Prelude.{ℕ, map as map_list}
 use Rattle.std.specs.Option.{option_map}
-use Rattle.pr_base.specs.Maps.{mapped}
+use Rattle.kr_ops.specs.pr_base.Maps.{mapped}
 use Rattle.kr_ops.specs.kr_view.Leads.{numbered}
 use Rattle.kr_ops.specs.kr_files.declared.opened.Opened.{Opened}
 use Rattle.kr_ops.specs.kr_files.Files.{Counted, Table}

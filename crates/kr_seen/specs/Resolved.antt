@@ -1,6 +1,6 @@
 -- What rows rest on of their targets: what every walk over a lawful state gives.
 use Rattle.std.specs.Prelude.{ℕ, ◌≡◌, true, false, List, Some, None}
-use Rattle.pr_base.specs.declared.path.Last.TheVariants as last
+use Rattle.kr_ops.specs.pr_base.declared.path.Last.TheVariants as last
 use Rattle.kr_ops.specs.kr_tree.declared.place.Host.TheVariants.{Node}
 use Rattle.kr_ops.specs.kr_tree.declared.place.Place.{Place}
 use Rattle.kr_ops.specs.kr_tree.Tree.{Tree, body_is, entry, takes_names}

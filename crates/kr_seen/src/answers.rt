@@ -4,7 +4,7 @@ ghost use Rattle.kr_ops.specs.kr_model.Reply.{refusal};
 ghost use Rattle.kr_ops.specs.kr_model.declared.outcome.Outcome.TheVariants.{Answer};
 
 use kr_ops::below::Outcome;
-use pr_base::Errno;
+use kr_walk::below::Errno;
 
 /// A refused call answers the negated number of the error.
 pub fn refused(errno: Errno) -> Outcome

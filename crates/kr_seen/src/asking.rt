@@ -12,7 +12,7 @@ ghost use Rattle.kr_seen.specs.Asked.{IsWritable};
 
 use kr_ops::State;
 use kr_ops::below::{Host, Ino, Kind, ProcAt, Right};
-use pr_base::Errno;
+use kr_walk::below::Errno;
 
 /// Whether an object is a directory: one of the tree, the process directory, or one in it.
 pub fn is_directory_host<T: Copy, const M: u8>(state: &State<T, M>, host: Host) -> bool

@@ -9,6 +9,9 @@ pub use kr_ops::below::{
 };
 pub use kr_ops::laws::lawful_states_are_sound;
 pub use kr_ops::{EndedProcess, Meant, State};
+pub use kr_walk::below::{
+    AT_FDCWD, AtFlags, BaseKind, Bytes, DESCRIPTORS, Errno, FILE_LIMIT, Last, MODES, MOST_PIECES,
+    NoMemory, NoProcs, OpenFlags, PAGE_SIZE, PIPE_BYTES, PeekFault, PeekKind, Peeks, SHELF,
+    WalkMode,
+};
 pub use kr_walk::resolve;
-pub use pr_base::limits::{AT_FDCWD, DESCRIPTORS, MODES, MOST_PIECES, SHELF};
-pub use pr_base::{AtFlags, Bytes, Errno, Last, NoMemory, OpenFlags, PAGE_SIZE};

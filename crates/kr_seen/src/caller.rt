@@ -1,6 +1,6 @@
 //! The memory of the caller of a call.
 ghost use Rattle.std.specs.Prelude.{◌≡◌, ◌≢◌, ◌↔◌, Bool, false, [], length, IsErrOf, IfOk, OnOk, OnErr};
-ghost use Rattle.pr_base.specs.declared.errno.Errno.TheVariants.{EFAULT};
+ghost use Rattle.kr_ops.specs.pr_base.declared.errno.Errno.TheVariants.{EFAULT};
 ghost use Rattle.kr_ops.specs.rv_mem.Actions.{write_if_allowed};
 ghost use Rattle.kr_ops.specs.rv_mem.Pages.{allows_all};
 ghost use Rattle.kr_ops.specs.kr_model.ProcessRows.{null_or_writable, unless_null};
@@ -15,7 +15,7 @@ ghost use Rattle.kr_seen.specs.Using.{CarriesOn, Reads, Writes};
 use crate::answers::{number, refused};
 use kr_ops::State;
 use kr_ops::below::{BadAddress, Outcome, StoreFault, Use};
-use pr_base::{Bytes, Errno};
+use kr_walk::below::{Bytes, Errno};
 use std::alloc::AllocError;
 
 /// Why bytes aren't read into memory of their own.

@@ -1,7 +1,7 @@
 //! Guest names of places over a state, and the links that lead there.
 ghost use Rattle.std.specs.Prelude.{◌≡◌, ℕ, List, IfOk, true};
 ghost use Rattle.std.specs.Option.{option_map};
-ghost use Rattle.pr_base.specs.Paths.{text_of};
+ghost use Rattle.kr_ops.specs.pr_base.Paths.{text_of};
 ghost use Rattle.kr_ops.specs.kr_tree.declared.place.Host.TheVariants.{Proc};
 ghost use Rattle.kr_ops.specs.kr_tree.Tree.{body_is};
 ghost use Rattle.kr_ops.specs.kr_view.Component.{is_process_directory, is_processes};
@@ -20,8 +20,8 @@ use crate::name::text_below;
 use crate::target::{Target, lives};
 use kr_ops::State;
 use kr_ops::below::{Host, Ino, Lead, Place, Places, ProcAt, What, pipe_text};
+use kr_walk::below::{Bytes, NoMemory};
 use kr_walk::guest_name;
-use pr_base::{Bytes, NoMemory};
 use std::alloc::Global;
 
 /// Where a link leads that leads to this.

@@ -1,12 +1,12 @@
 //! Guest names of places, also of those in the process directory.
 ghost use Rattle.std.specs.Prelude.{◌≡◌, ◌∷◌, ◌++◌, ℕ, List, codes, true, IfOk};
 ghost use Rattle.std.specs.Fmt.{decimal};
-ghost use Rattle.pr_base.specs.Paths.{below_root, text_of, AreNames};
+ghost use Rattle.kr_ops.specs.pr_base.Paths.{below_root, text_of, AreNames};
 ghost use Rattle.kr_ops.specs.kr_tree.Names.{process_names};
 ghost use Rattle.kr_ops.specs.kr_view.Component.{is_process_directory};
 
 use kr_ops::below::{ProcAt, proc_name};
-use pr_base::{Bytes, NoMemory};
+use kr_walk::below::{Bytes, NoMemory};
 use std::alloc::Global;
 
 /// The bytes of a text below the root, which has none there.

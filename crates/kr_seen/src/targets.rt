@@ -1,7 +1,7 @@
 //! From targets to what a call is told of them.
 ghost use Rattle.std.specs.Prelude.{◌≡◌, ℕ, List};
 ghost use Rattle.std.specs.Option.{option_map, option_map_or};
-ghost use Rattle.pr_base.specs.declared.errno.Errno.TheVariants.{ENOENT as NoEntry};
+ghost use Rattle.kr_ops.specs.pr_base.declared.errno.Errno.TheVariants.{ENOENT as NoEntry};
 ghost use Rattle.kr_ops.specs.kr_view.Leads.{numbered};
 ghost use Rattle.kr_ops.specs.kr_view.View.{Row};
 ghost use Rattle.kr_ops.specs.kr_model.Seen.{Opens, WalkFails};
@@ -19,7 +19,7 @@ use crate::told::{Entered, Entry, Linked, Looked, Made, Moved, Opening, Taken};
 use bitflags::Flags;
 use kr_ops::State;
 use kr_ops::below::{Host, Ino, Place, Places, Target};
-use pr_base::{Last, OpenFlags};
+use kr_walk::below::{Last, OpenFlags};
 
 /// Whether openat(2) may make a file.
 pub fn creates(flags: u32) -> bool

@@ -1,7 +1,7 @@
 //! What a call is told of the targets of its paths.
 
 use kr_ops::below::{Host, Ino};
-use pr_base::Last;
+use kr_walk::below::Last;
 
 /// A name in a directory.
 #[derive(Clone, Copy)]

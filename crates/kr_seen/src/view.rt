@@ -18,7 +18,7 @@ use crate::target::{Target, cwd_of, exe_of, open_at, root_of};
 use kr_ops::State;
 use kr_ops::below::{Ino, Lead, Place, Places, ProcAt, Procs, proc_name};
 use kr_ops::laws::lawful_states_are_sound;
-use pr_base::{Bytes, NoMemory};
+use kr_walk::below::{Bytes, NoMemory};
 use std::alloc::Global;
 use std::marker::Model;
 

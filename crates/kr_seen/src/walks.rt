@@ -15,9 +15,8 @@ use crate::view::procs;
 use kr_ops::State;
 use kr_ops::below::{PathArg, Place, Places, Reach, Request, Target, WalkFault, What, path_of};
 use kr_ops::laws::lawful_states_are_sound;
+use kr_walk::below::{AT_FDCWD, Errno, components};
 use kr_walk::resolve;
-use pr_base::limits::AT_FDCWD;
-use pr_base::{Errno, components};
 use std::alloc::Global;
 
 /// Where the paths of a call lead; `None` of a path that the call hasn't, or that is empty and stands for a descriptor.

@@ -5,7 +5,7 @@ use Rattle.std.specs.Prelude.{nat_lt, is_some}
 use Rattle.std.specs.Option.{option_map, option_and_then}
 use Rattle.std.proofs.lemmas.Bool.Decides.{nat_tests}
 use Rattle.std.proofs.lemmas.Option.{same_Some}
-use Rattle.pt_bind.proofs.pr_base.MapLemmas.{by_key, get-insert_same, get-insert_other}
+use Rattle.elf_load.proofs.pr_base.MapLemmas.{by_key, get-insert_same, get-insert_other}
 use Rattle.law_walks.specs.kr_view.View.{Row}
 use Rattle.law_walks.specs.kr_files.declared.opened.Opened.{Opened}
 use Rattle.law_walks.specs.kr_files.declared.opened.What.{What}

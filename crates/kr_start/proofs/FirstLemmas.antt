@@ -6,7 +6,7 @@ use Rattle.std.specs.List.{AllByRecursion}
 use Rattle.std.specs.Ordering.{nat_cmp}
 use Rattle.std.proofs.lemmas.Bool.Decides.{nat_tests}
 use Rattle.std.proofs.lemmas.Option.{none-some}
-use Rattle.pt_bind.proofs.pr_base.MapLemmas.{mapped-empty}
+use Rattle.elf_load.proofs.pr_base.MapLemmas.{mapped-empty}
 use Rattle.elf_load.specs.rv_mem.Memory.{page_count}
 use Rattle.elf_load.specs.rv_mem.Pages.{IsWhole, IsPlaced}
 use Rattle.elf_load.proofs.rv_mem.LayoutLemmas.{layouts_follow}

@@ -6,7 +6,7 @@ use Rattle.std.specs.List.{list_any}
 use Rattle.std.specs.Option.{option_map}
 use Rattle.std.proofs.lemmas.Bool.Decides.{nat_tests}
 use Rattle.std.proofs.lemmas.Option.{same_Some, none-some}
-use Rattle.pt_bind.proofs.pr_base.MapLemmas.{stays-changed}
+use Rattle.elf_load.proofs.pr_base.MapLemmas.{stays-changed}
 use Rattle.kr_text.specs.kr_tree.Tree.{Tree, Inode, inode, is_directory}
 use Rattle.kr_text.specs.kr_tree.Changes.{counted, held, with_holds}
 use Rattle.kr_text.specs.kr_tree.Holds.{holds_at}

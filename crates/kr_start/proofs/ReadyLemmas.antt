@@ -3,9 +3,9 @@ use Rattle.std.proofs.Common.{◌≡◌, ◌≤◌, ◌<◌, ◌^◌, ℕ, List,
 use Rattle.std.specs.Prelude.{Ok}
 use Rattle.std.specs.Option.{option_map_or}
 use Rattle.std.proofs.lemmas.List.{length-map}
-use Rattle.pt_bind.specs.pr_base.declared.bind.Bind.{Bind}
-use Rattle.pt_bind.specs.pr_base.declared.bind.Bound.{Bound}
-use Rattle.pt_bind.specs.Binding.{row_of, rows_of}
+use Rattle.elf_load.specs.pr_base.declared.bind.Bind.{Bind}
+use Rattle.elf_load.specs.pr_base.declared.bind.Bound.{Bound}
+use Rattle.law_walks.specs.pt_bind.Binding.{row_of, rows_of}
 use Rattle.kr_text.specs.kr_inode.declared.user.User.{User}
 use Rattle.kr_text.specs.kr_tree.Lawful.{HasItsInodes, IsKept}
 use Rattle.kr_text.specs.kr_tree.Tree.{Tree, Inode, inode}

@@ -4,7 +4,7 @@ use Rattle.std.specs.FinMap as map
 use Rattle.std.specs.Option.{option_map}
 use Rattle.std.specs.Ordering.{nat_cmp}
 use Rattle.std.proofs.lemmas.Option.{none-some, same_Some}
-use Rattle.pt_bind.proofs.pr_base.MapLemmas.{by_key, get-insert_same, get-insert_other}
+use Rattle.elf_load.proofs.pr_base.MapLemmas.{by_key, get-insert_same, get-insert_other}
 use Rattle.kr_text.specs.kr_inode.declared.user.User.{User}
 use Rattle.kr_text.specs.kr_tree.Changes.{new_tree, fresh}
 use Rattle.kr_text.specs.kr_tree.Tree.{Tree, Inode, Body, Directory, RegularFile, SymbolicLink, ProcessDirectory, inode, root}

@@ -1,6 +1,6 @@
 -- Trees that were read can last, and so can those in which bindings were settled.
 use Rattle.std.specs.Prelude.{◌≡◌, ℕ, List, Ok}
-use Rattle.pt_bind.specs.pr_base.declared.bind.Bind.{Bind}
+use Rattle.elf_load.specs.pr_base.declared.bind.Bind.{Bind}
 use Rattle.kr_text.specs.kr_inode.declared.user.User.{User}
 use Rattle.kr_text.specs.kr_tree.Lawful.{IsCounted, IsSound}
 use Rattle.kr_text.specs.kr_tree.Tree.{Tree}

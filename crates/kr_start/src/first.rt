@@ -14,13 +14,13 @@ ghost use Rattle.law_walks.specs.kr_model.State.{inode_of, process};
 ghost use Rattle.kr_start.specs.Start.{console, first_of, first_pid, held_once, is_console, pinned, started, with_console, with_first, without_processes, AreOpenBelow, CanBegin, First, HasNoHolds, IsIdle, IsOpenTo, IsReady};
 
 use elf_load::Image;
+use elf_load::below::pr_base::{Bytes, NoMemory};
 use elf_load::below::rv_mem::{Room, Use};
 use kr_ops::laws::lawful_states_are_sound;
 use kr_ops::{Process, State};
 use kr_text::below::kr_tree::laws::trees_are_kept;
 use kr_text::below::kr_tree::{Host, Ino, Place, Tree, User};
 use law_walks::below::{Descs, Files, FilesRefusal, Opened, Places, What};
-use pt_bind::below::pr_base::{Bytes, NoMemory};
 use std::alloc::Global;
 
 /// The number of the first process, and that of its parent, which never lives.

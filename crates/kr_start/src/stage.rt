@@ -1,6 +1,6 @@
 //! A tree with its user, and the mounts that stand in it.
 ghost use Rattle.std.specs.Prelude.{◌≡◌, IfOk};
-ghost use Rattle.pt_bind.specs.Binding.{rows_of};
+ghost use Rattle.law_walks.specs.pt_bind.Binding.{rows_of};
 ghost use Rattle.law_walks.specs.kr_mounts.Bounds.{AreNumbered};
 ghost use Rattle.law_walks.specs.kr_mounts.MountTable.{settling};
 ghost use Rattle.law_walks.specs.kr_mounts.Standing.{texts_of};
@@ -8,12 +8,11 @@ ghost use Rattle.law_walks.specs.kr_mounts.Stored.{table_of};
 ghost use Rattle.kr_start.specs.Ready.{IsOfListing, IsReady, IsStaged};
 
 use crate::listed::read_trees_last;
+use elf_load::below::pr_base::Bind;
 use kr_text::below::kr_tree::laws::trees_are_kept;
 use kr_text::below::kr_tree::{Tree, User};
-use law_walks::below::{BindFault, Mounted, settle};
+use law_walks::below::{BindFault, Mounted, Table, settle};
 use law_walks::start::settled_bindings_are_settled;
-use pt_bind::Table;
-use pt_bind::below::pr_base::Bind;
 use std::alloc::Global;
 
 /// More mounts than this have no numbers in a kernel.

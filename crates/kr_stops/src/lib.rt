@@ -13,7 +13,6 @@
 //! stop or the end of that process (`others`, `free`).
 #![tactic(auto)]
 
-pub mod below;
 mod handed;
 mod stops;
 mod tracee;

@@ -4,7 +4,7 @@ ghost use Rattle.kr_stops.specs.Remembering.{AgreesAt, FreeAgrees, FreesCaller, 
 ghost use Rattle.kr_stops.specs.Stopped.{Stopped, IsEdited};
 
 use crate::tracee::Tracee;
-use pr_base::NoMemory;
+use law_lawful::below::NoMemory;
 
 /// A watcher of calls. It is asked at two stops of a call: before the call is carried out, and behind it where its caller goes on.
 /// After want of memory both the watcher and what it was lent may only be dropped.

@@ -6,8 +6,7 @@ ghost use Rattle.law_lawful.specs.kr_tree.Lawful.{IsSound};
 ghost use Rattle.kr_stops.specs.Stopped.{Stopped, IsThere};
 ghost use Rattle.kr_stops.specs.Editing.{after_peek, after_poke, after_request, memory_at, register_at, with_register, Decodes};
 
-use law_lawful::below::{BadAddress, CallFault, Request, StoreFault, Use};
-use pr_base::Peeks;
+use law_lawful::below::{BadAddress, CallFault, Peeks, Request, StoreFault, Use};
 
 /// A process that stands at a stop of its call. Registers are numbered 1 to 31, as the processor numbers them.
 pub trait Tracee: Peeks {

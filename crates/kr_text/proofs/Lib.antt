@@ -1,3 +1,5 @@
+pub use Rattle.kr_tree.proofs.pr_base as pr_base
+pub use Rattle.kr_tree.proofs.kr_inode as kr_inode
 pub use Rattle.kr_tree.proofs as kr_tree
 pub mod CanonicalRows
 pub mod CountedNames

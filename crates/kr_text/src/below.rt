@@ -1,2 +1,4 @@
-//! The crates below, by which those above name them.
+//! What those above name of the crates below.
+
 pub use kr_tree;
+pub use kr_tree::below::pr_base::{Bytes, NoMemory};

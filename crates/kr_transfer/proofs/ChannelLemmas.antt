@@ -3,7 +3,7 @@ use Rattle.std.proofs.Common.{◌≡◌, ℕ, ℤ, Bool, true, Option, Some, Non
 use Rattle.std.specs.Prelude.{◌&&◌}
 use Rattle.std.specs.Option.{option_map, option_map_or, option_and_then}
 use Rattle.std.proofs.lemmas.Option.{same_Some, none-some}
-use Rattle.kr_inode.specs.pr_base.declared.errno.Errno.TheVariants.{EBADF}
+use Rattle.kr_seen.specs.pr_base.declared.errno.Errno.TheVariants.{EBADF}
 use Rattle.kr_seen.specs.kr_tree.Tree.{body_is, is_file}
 use Rattle.kr_seen.specs.kr_tree.declared.place.Host.{Host}
 use Rattle.kr_seen.specs.kr_tree.declared.place.Host.TheVariants.{Node, Proc}

@@ -10,7 +10,7 @@ use Rattle.std.specs.Ordering.{nat_cmp, is_lt}
 use Rattle.std.proofs.lemmas.Bool.{cases_eq, cond-true, cond-false}
 use Rattle.std.proofs.lemmas.Bool.Decides.{nat_tests}
 use Rattle.std.proofs.lemmas.Option.{none-some}
-use Rattle.kr_inode.proofs.pr_base.MapLemmas.{ties-same, ties-other}
+use Rattle.kr_seen.proofs.pr_base.MapLemmas.{ties-same, ties-other}
 use Rattle.kr_seen.specs.kr_tree.declared.place.ProcAt.TheVariants.{Fd}
 use Rattle.kr_seen.specs.kr_files.Descriptors.{Named}
 use Rattle.kr_seen.specs.kr_model.DirectoryRows as model

@@ -7,7 +7,7 @@ use Rattle.std.proofs.lemmas.Bool.Decides.{nat_tests}
 use Rattle.std.proofs.lemmas.Grind.{div_ceil_times}
 use Rattle.std.proofs.lemmas.List.{length-replicate}
 use Rattle.std.proofs.lemmas.Option.{none-some, same_Some}
-use Rattle.kr_inode.specs.pr_base.declared.errno.Errno.TheVariants.{EFAULT, EINVAL, ENOENT, ENOTDIR}
+use Rattle.kr_seen.specs.pr_base.declared.errno.Errno.TheVariants.{EFAULT, EINVAL, ENOENT, ENOTDIR}
 use Rattle.kr_seen.specs.rv_mem.Actions.{write_if_allowed}
 use Rattle.kr_seen.specs.kr_calls.DirectoryEntries.{entry_bytes, entry_head, record_length}
 use Rattle.kr_seen.specs.kr_tree.declared.place.Host.{Host}

@@ -1,4 +1,4 @@
-pub use Rattle.kr_inode.proofs as kr_inode
+pub use Rattle.kr_seen.proofs.kr_inode as kr_inode
 pub use Rattle.kr_seen.proofs as kr_seen
 pub mod ChannelLemmas
 pub mod SizeLemmas

@@ -5,8 +5,8 @@ use Rattle.std.specs.Int.{from_le_bytes, w64}
 use Rattle.std.proofs.lemmas.Bool.{cond-true, cond-false}
 use Rattle.std.proofs.lemmas.Bool.Decides.{nat_tests}
 use Rattle.std.proofs.lemmas.List.{drop-drop, map-append}
-use Rattle.kr_inode.specs.pr_base.declared.errno.Errno.{Errno}
-use Rattle.kr_inode.specs.pr_base.declared.errno.Errno.TheVariants.{EFAULT, EINVAL}
+use Rattle.kr_seen.specs.pr_base.declared.errno.Errno.{Errno}
+use Rattle.kr_seen.specs.pr_base.declared.errno.Errno.TheVariants.{EFAULT, EINVAL}
 use Rattle.kr_seen.specs.rv_mem.Actions.{read_if_allowed}
 use Rattle.kr_seen.specs.rv_mem.declared.rights.Use.TheVariants.{Read}
 use Rattle.kr_seen.specs.kr_model.Known.{known}

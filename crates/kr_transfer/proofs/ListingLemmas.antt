@@ -10,8 +10,8 @@ use Rattle.std.proofs.lemmas.Bool.Decides.{nat_tests}
 use Rattle.std.proofs.lemmas.Fmt.{length-decimal-le}
 use Rattle.std.proofs.lemmas.List.{drop_all}
 use Rattle.std.proofs.lemmas.Option.{same_Some, none-some}
-use Rattle.kr_inode.specs.Entries.{names_in}
-use Rattle.kr_inode.specs.Names.{is_dots, is_name}
+use Rattle.kr_seen.specs.kr_inode.Entries.{names_in}
+use Rattle.kr_seen.specs.kr_inode.Names.{is_dots, is_name}
 use Rattle.kr_seen.specs.kr_tree.Tree.{Entry, Inode, entries, entries_of, entry_after, inode}
 use Rattle.kr_seen.specs.kr_tree.declared.place.ProcAt.{ProcAt}
 use Rattle.kr_seen.specs.kr_tree.declared.place.ProcAt.TheVariants.{SelfLink, Dir, Cwd, Root, Exe, FdDir, Fd}

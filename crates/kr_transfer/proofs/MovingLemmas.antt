@@ -1,7 +1,7 @@
 -- Rows that use all pieces of a list, and what such uses leave of a state.
 use Rattle.std.proofs.Common.{◌≡◌, ℕ, ◌+◌, ◌<◌, Bool, true, false, List, [], ◌∷◌, ◌++◌, length, refl, sym, ap, subst, ◌∙◌, arith, append_assoc}
 use Rattle.std.specs.Prelude.{◌&&◌, IsSome, take, drop, if◌then◌else◌}
-use Rattle.kr_inode.specs.pr_base.declared.errno.Errno.TheVariants.{EFAULT}
+use Rattle.kr_seen.specs.pr_base.declared.errno.Errno.TheVariants.{EFAULT}
 use Rattle.kr_seen.specs.rv_mem.Actions.{WriteBytes, carried_out}
 use Rattle.kr_seen.specs.rv_mem.Memory.{Memory, after_read, with_pages}
 use Rattle.kr_seen.specs.rv_mem.Pages.{allows_all, written}

@@ -6,8 +6,8 @@ use Rattle.std.specs.Option.{option_map}
 use Rattle.std.proofs.lemmas.List.{length-take, take_min}
 use Rattle.std.proofs.lemmas.Option.{same_Some, none-some}
 use Rattle.std.proofs.lemmas.Bool.{cond-true, cond-false, ne_eqb}
-use Rattle.kr_inode.specs.pr_base.declared.errno.Errno.{Errno}
-use Rattle.kr_inode.specs.pr_base.declared.errno.Errno.TheVariants.{EBADF, EFAULT, EISDIR}
+use Rattle.kr_seen.specs.pr_base.declared.errno.Errno.{Errno}
+use Rattle.kr_seen.specs.pr_base.declared.errno.Errno.TheVariants.{EBADF, EFAULT, EISDIR}
 use Rattle.kr_seen.specs.kr_files.declared.opened.What.{What}
 use Rattle.kr_seen.specs.kr_files.declared.opened.What.TheVariants.{File}
 use Rattle.kr_seen.specs.rv_mem.Actions.{CarriedOut, carried_out}

@@ -2,7 +2,7 @@
 use Rattle.std.proofs.Common.{◌≡◌, ℕ, suc, ◌+◌, ◌<◌, Bool, true, false, cond, List, [], ◌∷◌, Option, Some, None, refl, arith}
 use Rattle.std.specs.Prelude.{map as map_list}
 use Rattle.std.specs.Option.{option_map, option_map_or}
-use Rattle.kr_inode.specs.Entries.{RisesWithin}
+use Rattle.kr_seen.specs.kr_inode.Entries.{RisesWithin}
 use Rattle.kr_seen.specs.kr_tree.Tree.{Body, Directory, RegularFile, SymbolicLink, ProcessDirectory, Entry, Inode, entries_of, inode}
 use Rattle.kr_seen.specs.kr_tree.declared.place.Host.{Host}
 use Rattle.kr_seen.specs.kr_tree.declared.place.Host.TheVariants.{Node, Proc}

@@ -4,9 +4,9 @@ use Rattle.std.specs.Prelude.{◌==◌, ◌||◌, not, map as map_list, Result, 
 use Rattle.std.specs.List.{find, list_any}
 use Rattle.std.specs.Option.{option_map, option_map_or, option_and_then}
 use Rattle.std.proofs.lemmas.Option.{same_Some, none-some}
-use Rattle.kr_inode.specs.declared.node.Kind.TheVariants.{Proc as ProcKind}
-use Rattle.kr_inode.specs.declared.standing.Standing.{Standing}
-use Rattle.kr_inode.specs.Stored.{kind_of}
+use Rattle.kr_seen.specs.kr_inode.declared.node.Kind.TheVariants.{Proc as ProcKind}
+use Rattle.kr_seen.specs.kr_inode.declared.standing.Standing.{Standing}
+use Rattle.kr_seen.specs.kr_inode.Stored.{kind_of}
 use Rattle.kr_seen.specs.kr_tree.Tree.{Body, Directory, RegularFile, SymbolicLink, ProcessDirectory, Inode, above, body, inode, standing_of}
 use Rattle.kr_seen.specs.kr_tree.declared.place.Host.TheVariants.{Node, Proc}
 use Rattle.kr_seen.specs.kr_tree.declared.place.ProcAt.TheVariants.{Dir}

@@ -4,7 +4,7 @@ use Rattle.std.specs.Prelude.{◌&&◌, not, nat_lt, Result, Ok, Err}
 use Rattle.std.specs.Option.{option_map, option_map_or}
 use Rattle.std.proofs.lemmas.Bool.{cond-true, cond-false, and_parts}
 use Rattle.std.proofs.lemmas.Option.{same_Some, none-some}
-use Rattle.kr_inode.specs.pr_base.declared.errno.Errno.TheVariants.{EFBIG, ENOSPC}
+use Rattle.kr_seen.specs.pr_base.declared.errno.Errno.TheVariants.{EFBIG, ENOSPC}
 use Rattle.kr_seen.specs.kr_tree.Tree.{Inode, inode, bytes_of}
 use Rattle.kr_seen.specs.kr_tree.Changes.{byte_limit, has_no_room_for as tree_has_no_room_for, is_past_file, size}
 use Rattle.kr_seen.specs.kr_tree.declared.place.Host.TheVariants.{Node}

@@ -4,7 +4,7 @@ use Rattle.std.specs.Prelude.{IsSome, ◌&&◌, ◌==◌, max, nat_le, not, if�
 use Rattle.std.specs.Option.{option_map, option_map_or}
 use Rattle.std.proofs.lemmas.Bool.{cond-true, cond-false, ne_eqb}
 use Rattle.std.proofs.lemmas.Bool.Decides.{nat_tests}
-use Rattle.kr_inode.specs.pr_base.declared.errno.Errno.TheVariants.{EFAULT, EFBIG, ENOSPC}
+use Rattle.kr_seen.specs.pr_base.declared.errno.Errno.TheVariants.{EFAULT, EFBIG, ENOSPC}
 use Rattle.kr_seen.specs.rv_mem.Actions.{CarriedOut}
 use Rattle.kr_seen.specs.rv_mem.Pages.{Pages}
 use Rattle.kr_seen.specs.rv_mem.declared.rights.Use.{Use}

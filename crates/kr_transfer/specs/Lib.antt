@@ -1,4 +1,4 @@
-pub use Rattle.kr_inode.specs as kr_inode
+pub use Rattle.kr_seen.specs.kr_inode as kr_inode
 pub use Rattle.kr_seen.specs as kr_seen
 pub mod Channels
 pub mod Moving

@@ -1,7 +1,7 @@
 //! getdents64(2).
 ghost use Rattle.std.specs.Prelude.{◌≡◌, ◌≢◌, ◌<◌, ◌≤◌, ◌∷◌, [], length, true, is_some, IfOk, IfSome};
 ghost use Rattle.std.specs.Option.{option_map_or};
-ghost use Rattle.kr_inode.specs.pr_base.declared.errno.Errno.TheVariants.{EFAULT as Fault, ENOTDIR as NotDirectory};
+ghost use Rattle.kr_seen.specs.pr_base.declared.errno.Errno.TheVariants.{EFAULT as Fault, ENOTDIR as NotDirectory};
 ghost use Rattle.kr_seen.specs.rv_mem.Actions.{write_if_allowed};
 ghost use Rattle.kr_seen.specs.kr_model.Asking.{is_directory_host};
 ghost use Rattle.kr_seen.specs.kr_model.Change.{Seek};
@@ -20,9 +20,9 @@ use crate::channel::{Channel, channel_of};
 use crate::listing::{Listed, or_zero, record_length};
 use crate::moving::allocator_of;
 use crate::shown::{is_shown, next_listed};
-use kr_inode::below::pr_base::{Bytes, Errno, NoMemory};
 use kr_seen::below::{
-    Host, Outcome, ProcAt, State, StoreFault, dirent_bytes, lawful_states_are_sound,
+    Bytes, Errno, Host, NoMemory, Outcome, ProcAt, State, StoreFault, dirent_bytes,
+    lawful_states_are_sound,
 };
 use kr_seen::{caller, number, refused};
 

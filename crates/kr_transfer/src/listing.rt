@@ -3,7 +3,7 @@ ghost use Rattle.std.specs.Prelude.{◌≡◌, ◌≤◌, List, length, map as m
 ghost use Rattle.std.specs.Option.{option_map, option_map_or};
 ghost use Rattle.kr_seen.specs.kr_calls.DirectoryEntries.{record_length};
 ghost use Rattle.kr_seen.specs.kr_tree.Tree.{Body, entries};
-ghost use Rattle.kr_inode.specs.Stored.{kind_of};
+ghost use Rattle.kr_seen.specs.kr_inode.Stored.{kind_of};
 ghost use Rattle.kr_seen.specs.kr_procfs.Objects.{HasSmallNumbers};
 ghost use Rattle.kr_seen.specs.kr_model.DirectoryRows as model;
 ghost use Rattle.kr_seen.specs.kr_model.DirectoryRows.{dt_reg, kind_of_body, kind_of_process, listed_entry, listed_process, of_descriptors, of_process, of_processes, or_zero, with_dots};
@@ -14,10 +14,9 @@ ghost use Rattle.kr_seen.specs.kr_ops.Sound.{IsOfView, IsSound};
 ghost use Rattle.kr_transfer.specs.Listing.{first_behind, or_else, told_entry};
 
 use crate::moving::allocator_of;
-use kr_inode::below::pr_base::limits::DESCRIPTORS;
-use kr_inode::below::pr_base::{Bytes, NoMemory};
 use kr_seen::below::{
-    Host, Ino, Kind, ProcAt, State, dirent_bytes, proc_inode, proc_name, proc_serial,
+    Bytes, DESCRIPTORS, Host, Ino, Kind, NoMemory, ProcAt, State, dirent_bytes, proc_inode,
+    proc_name, proc_serial,
 };
 use std::alloc::Global;
 

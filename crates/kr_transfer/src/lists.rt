@@ -1,7 +1,7 @@
 //! Lists of pieces in the caller's memory, as readv(2) and writev(2) name them.
 ghost use Rattle.std.specs.Prelude.{◌≡◌, ◌≢◌, ◌≤◌, ◌*◌, List, length, take, drop, ◌+◌, IfOk, IsErrOf};
 ghost use Rattle.std.specs.Int.{from_le_bytes, w64};
-ghost use Rattle.kr_inode.specs.pr_base.declared.errno.Errno.{Errno};
+ghost use Rattle.kr_seen.specs.pr_base.declared.errno.Errno.{Errno};
 ghost use Rattle.kr_seen.specs.kr_model.Pieces.{asked, cut_to, move_limit, pieces_of, with_list, Piece as ModelPiece};
 ghost use Rattle.kr_seen.specs.kr_model.Reply.{refusal, refuse, Replying};
 ghost use Rattle.kr_seen.specs.kr_model.declared.outcome.Outcome.TheVariants.{NoMemory as WantOfMemory};
@@ -11,9 +11,7 @@ ghost use Rattle.kr_transfer.specs.Moving.{told, OnlyReads};
 
 use crate::moving::{MOVE_LIMIT, allocator_of};
 use crate::pieces::{Piece, total};
-use kr_inode::below::pr_base::limits::MOST_PIECES;
-use kr_inode::below::pr_base::{Errno, NoMemory};
-use kr_seen::below::{Outcome, State};
+use kr_seen::below::{Errno, MOST_PIECES, NoMemory, Outcome, State};
 use kr_seen::caller::{self, LoadFault};
 use kr_seen::refused;
 use std::alloc::Global;

@@ -1,6 +1,6 @@
 //! Bytes that are moved between calls and pieces of the caller's memory.
 ghost use Rattle.std.specs.Prelude.{◌≡◌, ◌<◌, ◌≤◌, ◌^◌, ℕ, List, true, false, length, IfOk, IfSome, OnOk, OnErr, IsErrOf, take, drop};
-ghost use Rattle.kr_inode.specs.pr_base.declared.errno.Errno.TheVariants.{EFAULT as Fault};
+ghost use Rattle.kr_seen.specs.pr_base.declared.errno.Errno.TheVariants.{EFAULT as Fault};
 ghost use Rattle.kr_seen.specs.rv_mem.declared.rights.Use.TheVariants.{Read, Write};
 ghost use Rattle.kr_seen.specs.kr_model.Change.{Change};
 ghost use Rattle.kr_seen.specs.kr_model.Pieces.{asked, cut_to, hand, laid_into, read_all, write_all};
@@ -13,8 +13,7 @@ ghost use Rattle.kr_seen.specs.Using.{HasComeTo};
 ghost use Rattle.kr_transfer.specs.Moving.{all_allowed, told, LeavesOthers, OnlyReads};
 
 use crate::pieces::Piece;
-use kr_inode::below::pr_base::{Bytes, NoMemory};
-use kr_seen::below::{State, StoreFault, Use};
+use kr_seen::below::{Bytes, NoMemory, State, StoreFault, Use};
 use kr_seen::caller::{self, LoadFault};
 use std::alloc::Global;
 

@@ -1,6 +1,6 @@
 //! Calls that read from what is open.
 ghost use Rattle.std.specs.Prelude.{◌≡◌, ◌≢◌, ◌+◌, ◌<◌, ◌^◌, ℕ, not, if◌then◌else◌, Some, None, IfNone, IfSome, IfOk, take, drop, length, true, min};
-ghost use Rattle.kr_inode.specs.pr_base.declared.errno.Errno.TheVariants.{EBADF as NotOpen, EISDIR as IsDirectory};
+ghost use Rattle.kr_seen.specs.pr_base.declared.errno.Errno.TheVariants.{EBADF as NotOpen, EISDIR as IsDirectory};
 ghost use Rattle.kr_seen.specs.kr_model.FileRows.{is_dir, read_file, read_input, read_pieces, read_pipe, read_row, readv_row};
 ghost use Rattle.kr_seen.specs.kr_model.Pieces.{one_piece, with_list};
 ghost use Rattle.kr_seen.specs.kr_model.Reply.{refuse};
@@ -16,8 +16,9 @@ use crate::channel::{Channel, channel_of, inode_of, is_directory};
 use crate::lists::{answer_of, read_list};
 use crate::moving::{MOVE_LIMIT, allocator_of, hand, may_use_all, part, write_all};
 use crate::pieces::Piece;
-use kr_inode::below::pr_base::{Bytes, Errno, NoMemory};
-use kr_seen::below::{Moved, Outcome, State, StoreFault, Use, What, lawful_states_are_sound};
+use kr_seen::below::{
+    Bytes, Errno, Moved, NoMemory, Outcome, State, StoreFault, Use, What, lawful_states_are_sound,
+};
 use kr_seen::{number, refused};
 
 /// read(2): EBADF of a descriptor that isn't open for reading, EISDIR. At most 2,147,479,552 bytes are asked, and a length

@@ -13,8 +13,9 @@ ghost use Rattle.kr_transfer.specs.Listing.{all_shown, first_behind, told_entry}
 
 use crate::listing::{Listed, descriptor_entry, directory_entry, dots, link_entry, node_entry};
 use crate::moving::allocator_of;
-use kr_inode::below::pr_base::NoMemory;
-use kr_seen::below::{Host, Ino, Kind, ProcAt, State, lawful_states_are_sound, proc_inode};
+use kr_seen::below::{
+    Host, Ino, Kind, NoMemory, ProcAt, State, lawful_states_are_sound, proc_inode,
+};
 
 /// Whether a process lives.
 fn lives<T: Copy, const M: u8>(state: &State<T, M>, pid: u32, of: u32) -> bool

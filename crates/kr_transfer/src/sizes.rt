@@ -5,8 +5,7 @@ ghost use Rattle.kr_seen.specs.PerformedRows.{Performs};
 ghost use Rattle.kr_transfer.specs.Channels.{IsOpenHere, PerformsOn};
 
 use crate::channel::{Channel, channel_of, inode_of, is_writable_file};
-use kr_inode::below::pr_base::Errno;
-use kr_seen::below::{Outcome, State, TreeRefusal, lawful_states_are_sound};
+use kr_seen::below::{Errno, Outcome, State, TreeRefusal, lawful_states_are_sound};
 use kr_seen::{number, refused};
 
 /// ftruncate(2): EBADF of a descriptor that isn't open, EINVAL of what is no file or isn't open for writing, EFBIG of a

@@ -1,6 +1,6 @@
 //! Calls that write to what is open.
 ghost use Rattle.std.specs.Prelude.{◌≡◌, ◌≢◌, ◌+◌, ◌<◌, ◌≤◌, ◌^◌, ℕ, not, if◌then◌else◌, Some, None, length, true};
-ghost use Rattle.kr_inode.specs.pr_base.declared.errno.Errno.TheVariants.{EBADF as NotOpen, EISDIR as IsDirectory};
+ghost use Rattle.kr_seen.specs.pr_base.declared.errno.Errno.TheVariants.{EBADF as NotOpen, EISDIR as IsDirectory};
 ghost use Rattle.kr_seen.specs.rv_mem.declared.rights.Use.TheVariants.{Read};
 ghost use Rattle.kr_seen.specs.kr_files.declared.opened.What.TheVariants.{File as RegularFile, PipeWrite as WriteEnd, Out as ConsoleOutput, Err as ConsoleError};
 ghost use Rattle.kr_seen.specs.kr_tree.Changes.{file_limit};
@@ -20,10 +20,10 @@ use crate::channel::{Channel, channel_of, inode_of, is_directory};
 use crate::lists::{answer_of, read_list};
 use crate::moving::{MOVE_LIMIT, may_use_all, read_all};
 use crate::pieces::Piece;
-use kr_inode::FILE_LIMIT;
-use kr_inode::below::pr_base::limits::PIPE_BYTES;
-use kr_inode::below::pr_base::{Errno, NoMemory};
-use kr_seen::below::{Outcome, State, TreeRefusal, Use, What, lawful_states_are_sound};
+use kr_seen::below::{
+    Errno, FILE_LIMIT, NoMemory, Outcome, PIPE_BYTES, State, TreeRefusal, Use, What,
+    lawful_states_are_sound,
+};
 use kr_seen::{number, refused};
 
 /// How a process ends that writes to a pipe without readers, as wait4(2) tells it.

@@ -1,2 +1,4 @@
-//! The crates below, by which those above name them.
+//! What those above name of the crates below.
+
+pub use kr_inode::FILE_LIMIT;
 pub use kr_inode::below::pr_base;

@@ -11,21 +11,21 @@ use Rattle.kr_execve.specs.kr_calls.Decoding.{decoding}
 use Rattle.kr_execve.specs.kr_calls.declared.request.Request.{Request}
 use Rattle.kr_execve.specs.kr_calls.declared.request.Request.TheVariants as call
 use Rattle.kr_execve.specs.kr_view.View.{Row}
-use Rattle.kr_seen.specs.kr_model.Applied.{Mounts, all_applied, images, with_image, with_living}
-use Rattle.kr_seen.specs.kr_model.Change.{End}
-use Rattle.kr_seen.specs.kr_model.State.{Image, Process, State, process, with_process}
-use Rattle.kr_seen.specs.kr_model.Walks.{targets_of}
-use Rattle.kr_seen.specs.kr_model.declared.outcome.Outcome.{Outcome}
-use Rattle.kr_seen.specs.kr_model.declared.outcome.Outcome.TheVariants.{Answer, Wait, Ended, NoMemory}
+use Rattle.law_steady.specs.kr_model.Applied.{Mounts, all_applied, images, with_image, with_living}
+use Rattle.law_steady.specs.kr_model.Change.{End}
+use Rattle.law_steady.specs.kr_model.State.{Image, Process, State, process, with_process}
+use Rattle.law_steady.specs.kr_model.Walks.{targets_of}
+use Rattle.law_steady.specs.kr_model.declared.outcome.Outcome.{Outcome}
+use Rattle.law_steady.specs.kr_model.declared.outcome.Outcome.TheVariants.{Answer, Wait, Ended, NoMemory}
 use Rattle.kr_steps.specs.law_allowed.Told.{mounts_walked}
 use Rattle.kr_steps.specs.law_allowed.Others.{LivesOn}
 use Rattle.kr_steps.proofs.law_allowed.OthersLemmas.{all_others_live, lives_on, one_changed, others_live, unchanged}
-use Rattle.kr_seen.specs.Carrying.{memory_of, with_memory, with_memory_of}
+use Rattle.kr_calm.specs.kr_seen.Carrying.{memory_of, with_memory, with_memory_of}
 use Rattle.kr_execve.specs.Execution.{Program, changes_of, execution, mount_of}
 use Rattle.kr_steps.specs.Answering.{going, with_answer}
 use Rattle.kr_steps.specs.Computing.{computed}
 use Rattle.kr_steps.specs.Settling.{settled}
-use Rattle.kr_stops.specs.Stopped.{IsEdited, Stopped, image_at, nothing_handed}
+use Rattle.kr_steps.specs.kr_stops.Stopped.{IsEdited, Stopped, image_at, nothing_handed}
 use Rattle.kr_turns.specs.Breaking.{no_mounts}
 use Rattle.kr_turns.specs.Making.{LeavesOthers}
 use Rattle.kr_turns.specs.PlainCall.{after_decoding, executed, operated, plain_call, plain_call_of, refusal_told, replaced, requested, row_on}

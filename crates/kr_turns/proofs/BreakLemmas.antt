@@ -17,24 +17,24 @@ use Rattle.kr_execve.specs.kr_tree.declared.place.Place.{Place}
 use Rattle.kr_execve.specs.kr_view.Leads.{numbered}
 use Rattle.kr_execve.specs.kr_view.declared.target.Reach.{Reach}
 use Rattle.kr_execve.specs.kr_view.View.{Row, StandsIn}
-use Rattle.kr_seen.specs.kr_files.declared.opened.Opened.{Opened}
-use Rattle.kr_seen.specs.kr_files.Descriptors.{Meanings, Named}
-use Rattle.kr_seen.specs.kr_files.Files.{Table, file_at}
-use Rattle.kr_seen.specs.kr_model.Applied.{Mounts, images}
-use Rattle.kr_seen.specs.kr_model.Change.{Change, End}
-use Rattle.kr_seen.specs.kr_model.FileRows.{is_dir}
-use Rattle.kr_seen.specs.kr_model.Known.{Known, known}
-use Rattle.kr_seen.specs.kr_model.Operation.{operation}
-use Rattle.kr_seen.specs.kr_model.Reply.{Reply, Replying, refusal}
-use Rattle.kr_seen.specs.kr_model.State.{Image, Process, State, image_layout}
-use Rattle.kr_seen.specs.kr_model.Walks.{Targets, seen_of, targets_of}
-use Rattle.kr_seen.specs.kr_ops.declared.state.State.{State as Kept}
-use Rattle.kr_seen.specs.kr_ops.Meaning.{meaning}
-use Rattle.kr_seen.specs.Numbered.{opened_numbered, process_numbered, state_numbered, table_numbered}
-use Rattle.kr_seen.proofs.TableLemmas.{file-numbered}
-use Rattle.kr_seen.specs.Carrying.{memory_of, with_memory_of}
+use Rattle.law_steady.specs.kr_files.declared.opened.Opened.{Opened}
+use Rattle.law_steady.specs.kr_files.Descriptors.{Meanings, Named}
+use Rattle.law_steady.specs.kr_files.Files.{Table, file_at}
+use Rattle.law_steady.specs.kr_model.Applied.{Mounts, images}
+use Rattle.law_steady.specs.kr_model.Change.{Change, End}
+use Rattle.law_steady.specs.kr_model.FileRows.{is_dir}
+use Rattle.law_steady.specs.kr_model.Known.{Known, known}
+use Rattle.law_steady.specs.kr_model.Operation.{operation}
+use Rattle.law_steady.specs.kr_model.Reply.{Reply, Replying, refusal}
+use Rattle.law_steady.specs.kr_model.State.{Image, Process, State, image_layout}
+use Rattle.law_steady.specs.kr_model.Walks.{Targets, seen_of, targets_of}
+use Rattle.kr_hostview.specs.kr_ops.declared.state.State.{State as Kept}
+use Rattle.kr_hostview.specs.kr_ops.Meaning.{meaning}
+use Rattle.kr_calm.specs.kr_seen.Numbered.{opened_numbered, process_numbered, state_numbered, table_numbered}
+use Rattle.kr_calm.proofs.kr_seen.TableLemmas.{file-numbered}
+use Rattle.kr_calm.specs.kr_seen.Carrying.{memory_of, with_memory_of}
 use Rattle.kr_steps.specs.law_allowed.Told.{mounts_walked}
-use Rattle.kr_seen.specs.CallWalks.{call_reach}
+use Rattle.kr_calm.specs.kr_seen.CallWalks.{call_reach}
 use Rattle.kr_steps.proofs.ComputingLemmas.{walk-refuses}
 use Rattle.kr_calm.specs.Calm.{Asked, Course, asked_breaks_2, broken_by, kept}
 use Rattle.kr_calm.specs.InUse.{any_opened_below, is_directory_of, is_in_use, open_directory, passes_at, process_uses}

@@ -7,20 +7,20 @@ use Rattle.kr_steps.specs.rv_mem.Memory.{Memory, after_read, with_pages}
 use Rattle.kr_steps.specs.rv_mem.Pages.{IsPlaced, IsWhole, written}
 use Rattle.kr_steps.specs.rv_mem.declared.regs.Regs.{Regs}
 use Rattle.kr_execve.specs.kr_view.View.{Row}
-use Rattle.kr_seen.specs.kr_model.Applied.{with_living}
-use Rattle.kr_seen.specs.kr_model.State as model
-use Rattle.kr_seen.specs.kr_model.State.{Image}
+use Rattle.law_steady.specs.kr_model.Applied.{with_living}
+use Rattle.law_steady.specs.kr_model.State as model
+use Rattle.law_steady.specs.kr_model.State.{Image}
 use Rattle.kr_steps.proofs.law_allowed.RowLemmas.{StaysLike, stays-like}
-use Rattle.kr_seen.specs.kr_ops.declared.state.Process.{Process}
-use Rattle.kr_seen.specs.kr_ops.declared.state.State.{State}
-use Rattle.kr_seen.specs.kr_ops.Living.{HasPid}
-use Rattle.kr_seen.specs.kr_ops.Meaning.{meaning, process_meaning}
-use Rattle.kr_seen.specs.kr_ops.Sound.{IsSound}
+use Rattle.kr_hostview.specs.kr_ops.declared.state.Process.{Process}
+use Rattle.kr_hostview.specs.kr_ops.declared.state.State.{State}
+use Rattle.kr_hostview.specs.kr_ops.Living.{HasPid}
+use Rattle.kr_hostview.specs.kr_ops.Meaning.{meaning, process_meaning}
+use Rattle.kr_hostview.specs.kr_ops.Sound.{IsSound}
 use Rattle.kr_steps.specs.Calls.{Runs}
 use Rattle.kr_steps.specs.Computing.{computed}
 use Rattle.kr_steps.proofs.ComputingLemmas.{changed_at, image-means, image-runs, lives-at}
-use Rattle.kr_stops.specs.Stopped.{image_in, no_image}
-use Rattle.kr_stops.proofs.EditLemmas.{own-same}
+use Rattle.kr_steps.specs.kr_stops.Stopped.{image_in, no_image}
+use Rattle.kr_steps.proofs.kr_stops.EditLemmas.{own-same}
 
 module _ {T : Type 0} {M : ℕ} (s : State T M) (pid k : ℕ) (p : Process T M) (sound : IsSound s) (at : HasPid pid k s.living.items) (e : p ≡ get_or s.living.items k p) where
   pub image-here : image_in pid (meaning s) ≡ record { regs = p.regs; memory = p.mem }

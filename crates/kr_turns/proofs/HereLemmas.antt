@@ -11,23 +11,23 @@ use Rattle.kr_execve.specs.kr_calls.Decoding.{decoding}
 use Rattle.kr_execve.specs.kr_calls.declared.fault.CallFault.{CallFault}
 use Rattle.kr_execve.specs.kr_calls.declared.request.Request.{Request}
 use Rattle.kr_execve.specs.kr_view.View.{Row}
-use Rattle.kr_seen.specs.kr_model.Peeks.{peeked_of}
-use Rattle.kr_seen.specs.kr_model.State as model
-use Rattle.kr_seen.specs.kr_model.State.{Image}
-use Rattle.kr_seen.proofs.law_lawful.AfterLemmas.{some-of}
-use Rattle.kr_seen.specs.kr_ops.declared.state.State.{State}
-use Rattle.kr_seen.specs.kr_ops.Meaning.{meaning}
-use Rattle.kr_seen.specs.kr_ops.Sound.{IsOfView}
-use Rattle.kr_seen.specs.Numbered.{process_numbered, state_numbered}
+use Rattle.law_steady.specs.kr_model.Peeks.{peeked_of}
+use Rattle.law_steady.specs.kr_model.State as model
+use Rattle.law_steady.specs.kr_model.State.{Image}
+use Rattle.kr_calm.proofs.law_lawful.AfterLemmas.{some-of}
+use Rattle.kr_hostview.specs.kr_ops.declared.state.State.{State}
+use Rattle.kr_hostview.specs.kr_ops.Meaning.{meaning}
+use Rattle.kr_hostview.specs.kr_ops.Sound.{IsOfView}
+use Rattle.kr_calm.specs.kr_seen.Numbered.{process_numbered, state_numbered}
 use Rattle.kr_steps.specs.Calls.{Runs}
 use Rattle.kr_hostview.specs.Asked.{Asked}
 use Rattle.kr_hostview.proofs.LawLemmas.{hosts-have-one-mount, lawful-on-host}
-use Rattle.kr_seen.proofs.LookLemmas.{asked-numbered, process-numbered}
+use Rattle.kr_calm.proofs.kr_seen.LookLemmas.{asked-numbered, process-numbered}
 use Rattle.kr_steps.specs.Computing.{Requests, computed}
 use Rattle.kr_turns.specs.Held.{Held, Stands, stopped_in, stopped_of}
-use Rattle.kr_stops.specs.declared.handed.Handed.{Handed}
-use Rattle.kr_stops.specs.Stopped.{IsThere, Stopped, edited, image_at, image_in, no_image}
-use Rattle.kr_stops.proofs.EditLemmas.{computed-lives, there}
+use Rattle.kr_steps.specs.kr_stops.declared.handed.Handed.{Handed}
+use Rattle.kr_steps.specs.kr_stops.Stopped.{IsThere, Stopped, edited, image_at, image_in, no_image}
+use Rattle.kr_steps.proofs.kr_stops.EditLemmas.{computed-lives, there}
 use Rattle.kr_turns.proofs.NumberLemmas.{computed-numbered, pids-numbered}
 
 module _ {T : Type 0} {M : ℕ} {number : T → ℕ} {table : List Row} {calls pid : ℕ} {s : State T M} where

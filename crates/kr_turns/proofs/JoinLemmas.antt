@@ -4,15 +4,15 @@ use Rattle.kr_steps.specs.rv_cpu.Run.{Ran, ran}
 use Rattle.kr_steps.specs.rv_cpu.declared.event.Event.{Event}
 use Rattle.kr_steps.specs.rv_cpu.declared.event.Event.TheVariants.{Next, Call, Killed}
 use Rattle.kr_execve.specs.kr_view.View.{Row}
-use Rattle.kr_seen.specs.kr_model.State.{Image, Process, State, process}
+use Rattle.law_steady.specs.kr_model.State.{Image, Process, State, process}
 use Rattle.kr_steps.specs.Computing.{computed}
 use Rattle.kr_turns.specs.Laws.{TurnsAreFunctions}
 use Rattle.kr_turns.specs.Breaking.{plain_rule}
 use Rattle.kr_turns.specs.PlainCall.{Came, plain_call}
 use Rattle.kr_turns.specs.Shelving.{lacks_in}
-use Rattle.kr_stops.specs.Stopped.{Stopped}
+use Rattle.kr_steps.specs.kr_stops.Stopped.{Stopped}
 use Rattle.kr_turns.specs.Turn.{ExitsIfAny, IsAfterEvent, IsAfterPlain, IsBorn, IsTurnOf, IsWatchedCall, Leaves, Machine, Tally, after_born, after_end, after_event, after_exit, after_plain, by_pick, called, calling, turn_of, watched_call, with_broken, with_part}
-use Rattle.kr_stops.specs.Watching.{IsGraph, Watcher, Watching}
+use Rattle.kr_steps.specs.kr_stops.Watching.{IsGraph, Watcher, Watching}
 use Rattle.kr_turns.specs.declared.plain.CallEnd.{CallEnd}
 use Rattle.kr_turns.specs.declared.plain.CallEnd.TheVariants as end
 

@@ -6,20 +6,20 @@ use Rattle.kr_steps.specs.rv_mem.Memory.{Memory}
 use Rattle.kr_execve.specs.kr_calls.declared.request.Request.{Request}
 use Rattle.kr_execve.specs.kr_view.declared.target.Reach.{Reach}
 use Rattle.kr_execve.specs.kr_view.View.{Row}
-use Rattle.kr_seen.specs.kr_model.Known.{Known, known}
-use Rattle.kr_seen.specs.kr_model.Operation.{operation}
-use Rattle.kr_seen.specs.kr_model.Reply.{Reply}
-use Rattle.kr_seen.specs.kr_model.State as model
-use Rattle.kr_seen.specs.kr_model.State.{Image, image_layout}
-use Rattle.kr_seen.specs.kr_model.Walks.{seen, targets_of}
-use Rattle.kr_seen.specs.kr_model.declared.outcome.Outcome.{Outcome}
-use Rattle.kr_seen.specs.kr_model.declared.outcome.Outcome.TheVariants.{Answer, Wait, Ended, NoMemory}
+use Rattle.law_steady.specs.kr_model.Known.{Known, known}
+use Rattle.law_steady.specs.kr_model.Operation.{operation}
+use Rattle.law_steady.specs.kr_model.Reply.{Reply}
+use Rattle.law_steady.specs.kr_model.State as model
+use Rattle.law_steady.specs.kr_model.State.{Image, image_layout}
+use Rattle.law_steady.specs.kr_model.Walks.{seen, targets_of}
+use Rattle.law_steady.specs.kr_model.declared.outcome.Outcome.{Outcome}
+use Rattle.law_steady.specs.kr_model.declared.outcome.Outcome.TheVariants.{Answer, Wait, Ended, NoMemory}
 use Rattle.kr_steps.specs.law_allowed.Told.{mounts_walked}
-use Rattle.kr_seen.specs.kr_ops.declared.state.State.{State}
-use Rattle.kr_seen.specs.kr_ops.Meaning.{meaning}
-use Rattle.kr_seen.specs.Numbered.{state_numbered}
-use Rattle.kr_seen.proofs.LookLemmas.{known-numbered}
-use Rattle.kr_seen.specs.Carrying.{after_row, carried, memory_of, with_memory_of}
+use Rattle.kr_hostview.specs.kr_ops.declared.state.State.{State}
+use Rattle.kr_hostview.specs.kr_ops.Meaning.{meaning}
+use Rattle.kr_calm.specs.kr_seen.Numbered.{state_numbered}
+use Rattle.kr_calm.proofs.kr_seen.LookLemmas.{known-numbered}
+use Rattle.kr_calm.specs.kr_seen.Carrying.{after_row, carried, memory_of, with_memory_of}
 use Rattle.kr_calm.specs.Calm.{Course, broken_by}
 use Rattle.kr_calm.specs.Noted.{IsNoted}
 use Rattle.kr_calm.specs.Rules.{breaks_2}

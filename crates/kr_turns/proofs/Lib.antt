@@ -1,13 +1,14 @@
+pub use Rattle.law_steady.proofs.pr_base as pr_base
 pub use Rattle.kr_steps.proofs.rv_cpu as rv_cpu
 pub use Rattle.kr_execve.proofs.elf_load as elf_load
-pub use Rattle.kr_seen.proofs.law_lawful as law_lawful
-pub use Rattle.kr_seen.proofs.kr_ops as kr_ops
-pub use Rattle.kr_seen.proofs as kr_seen
+pub use Rattle.kr_calm.proofs.law_lawful as law_lawful
+pub use Rattle.kr_hostview.proofs.kr_ops as kr_ops
+pub use Rattle.kr_calm.proofs.kr_seen as kr_seen
 pub use Rattle.kr_steps.proofs.kr_perform as kr_perform
 pub use Rattle.kr_execve.proofs.kr_exec as kr_exec
 pub use Rattle.kr_calm.proofs as kr_calm
 pub use Rattle.kr_steps.proofs as kr_steps
-pub use Rattle.kr_stops.proofs as kr_stops
+pub use Rattle.kr_steps.proofs.kr_stops as kr_stops
 pub use Rattle.law_steady.proofs as law_steady
 pub mod EditingLemmas
 pub mod HereLemmas

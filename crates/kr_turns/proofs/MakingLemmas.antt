@@ -12,28 +12,28 @@ use Rattle.kr_steps.specs.rv_mem.Actions.{CarriedOut, carried_out}
 use Rattle.kr_steps.specs.rv_mem.Memory.{Memory}
 use Rattle.kr_steps.specs.rv_mem.declared.regs.Regs.{Regs}
 use Rattle.kr_execve.specs.kr_view.View.{Row}
-use Rattle.kr_seen.specs.kr_model.Applied.{Mounts, images}
-use Rattle.kr_seen.specs.kr_model.Change.{End}
-use Rattle.kr_seen.specs.kr_model.State as model
-use Rattle.kr_seen.specs.kr_model.State.{Image, Process}
-use Rattle.kr_seen.proofs.law_lawful.AfterLemmas.{some-of}
-use Rattle.kr_seen.proofs.law_lawful.ProcessChangeLemmas.{found-passes}
-use Rattle.kr_seen.proofs.law_lawful.SumLemmas.{passed-test}
-use Rattle.kr_seen.specs.kr_ops.declared.state.State.{State}
-use Rattle.kr_seen.specs.kr_ops.Making.{Makes}
-use Rattle.kr_seen.specs.kr_ops.Living.{HasPid}
-use Rattle.kr_seen.specs.kr_ops.Meaning.{meaning}
-use Rattle.kr_seen.specs.kr_ops.Sound.{IsSound}
-use Rattle.kr_seen.proofs.kr_ops.OpeningLemmas.{found}
-use Rattle.kr_seen.specs.Numbered.{process_numbered, state_numbered}
-use Rattle.kr_seen.proofs.ChangeLemmas.{change-numbered}
-use Rattle.kr_seen.proofs.LookLemmas.{process-numbered}
+use Rattle.law_steady.specs.kr_model.Applied.{Mounts, images}
+use Rattle.law_steady.specs.kr_model.Change.{End}
+use Rattle.law_steady.specs.kr_model.State as model
+use Rattle.law_steady.specs.kr_model.State.{Image, Process}
+use Rattle.kr_calm.proofs.law_lawful.AfterLemmas.{some-of}
+use Rattle.kr_calm.proofs.law_lawful.ProcessChangeLemmas.{found-passes}
+use Rattle.kr_calm.proofs.law_lawful.SumLemmas.{passed-test}
+use Rattle.kr_hostview.specs.kr_ops.declared.state.State.{State}
+use Rattle.kr_hostview.specs.kr_ops.Making.{Makes}
+use Rattle.kr_hostview.specs.kr_ops.Living.{HasPid}
+use Rattle.kr_hostview.specs.kr_ops.Meaning.{meaning}
+use Rattle.kr_hostview.specs.kr_ops.Sound.{IsSound}
+use Rattle.kr_hostview.proofs.kr_ops.OpeningLemmas.{found}
+use Rattle.kr_calm.specs.kr_seen.Numbered.{process_numbered, state_numbered}
+use Rattle.kr_calm.proofs.kr_seen.ChangeLemmas.{change-numbered}
+use Rattle.kr_calm.proofs.kr_seen.LookLemmas.{process-numbered}
 use Rattle.kr_steps.specs.Computing.{Computes, computed}
-use Rattle.kr_stops.specs.declared.handed.Handed.{Handed}
-use Rattle.kr_stops.specs.Remembering.{KeepsOthersFree}
-use Rattle.kr_stops.specs.Stopped.{nothing_handed}
-use Rattle.kr_stops.specs.Watching.{Watching}
-use Rattle.kr_stops.proofs.EditLemmas.{computed-lives}
+use Rattle.kr_steps.specs.kr_stops.declared.handed.Handed.{Handed}
+use Rattle.kr_steps.specs.kr_stops.Remembering.{KeepsOthersFree}
+use Rattle.kr_steps.specs.kr_stops.Stopped.{nothing_handed}
+use Rattle.kr_steps.specs.kr_stops.Watching.{Watching}
+use Rattle.kr_steps.proofs.kr_stops.EditLemmas.{computed-lives}
 use Rattle.kr_calm.specs.Calm.{kept}
 use Rattle.kr_calm.specs.declared.rule.Rule.{Rule}
 use Rattle.kr_turns.specs.Breaking.{plain_rule}

@@ -8,26 +8,26 @@ use Rattle.kr_steps.specs.rv_mem.Memory.{Memory, after_read}
 use Rattle.kr_execve.specs.kr_calls.declared.request.Request.{Request}
 use Rattle.kr_execve.specs.kr_calls.declared.request.Request.TheVariants as call
 use Rattle.kr_execve.specs.kr_view.View.{Row}
-use Rattle.kr_seen.specs.kr_model.Known.{Known, known}
-use Rattle.kr_seen.specs.kr_model.Lawful.{ArePids, IsLawful}
-use Rattle.kr_seen.specs.kr_model.Operation.{operation}
-use Rattle.kr_seen.specs.kr_model.Reply.{Reply}
-use Rattle.kr_seen.specs.kr_model.Seen.{Seen}
-use Rattle.kr_seen.specs.kr_model.State as model
-use Rattle.kr_seen.specs.kr_model.State.{Image, image_layout}
-use Rattle.kr_seen.specs.kr_model.Walks.{Targets, seen, targets_of}
-use Rattle.kr_seen.specs.kr_model.declared.outcome.Outcome.{Outcome}
+use Rattle.law_steady.specs.kr_model.Known.{Known, known}
+use Rattle.law_steady.specs.kr_model.Lawful.{ArePids, IsLawful}
+use Rattle.law_steady.specs.kr_model.Operation.{operation}
+use Rattle.law_steady.specs.kr_model.Reply.{Reply}
+use Rattle.law_steady.specs.kr_model.Seen.{Seen}
+use Rattle.law_steady.specs.kr_model.State as model
+use Rattle.law_steady.specs.kr_model.State.{Image, image_layout}
+use Rattle.law_steady.specs.kr_model.Walks.{Targets, seen, targets_of}
+use Rattle.law_steady.specs.kr_model.declared.outcome.Outcome.{Outcome}
 use Rattle.kr_steps.specs.law_allowed.Lasting.{Lasts}
-use Rattle.kr_seen.proofs.law_lawful.AfterLemmas.{some-of}
+use Rattle.kr_calm.proofs.law_lawful.AfterLemmas.{some-of}
 use Rattle.kr_steps.specs.law_allowed.Told.{mounts_walked}
 use Rattle.kr_steps.proofs.law_allowed.RowLemmas.{StaysLike, lawful-memory}
-use Rattle.kr_seen.specs.kr_ops.declared.state.State.{State}
-use Rattle.kr_seen.specs.kr_ops.Meaning.{meaning}
-use Rattle.kr_seen.specs.Numbered.{state_numbered}
-use Rattle.kr_seen.specs.Carrying.{after_row, carried, memory_of, no_memory, with_memory_of}
-use Rattle.kr_seen.proofs.CarryLemmas.{own-memory}
-use Rattle.kr_seen.specs.CallWalks.{AreTargets}
-use Rattle.kr_seen.specs.declared.walks.Targets.{Targets as Told}
+use Rattle.kr_hostview.specs.kr_ops.declared.state.State.{State}
+use Rattle.kr_hostview.specs.kr_ops.Meaning.{meaning}
+use Rattle.kr_calm.specs.kr_seen.Numbered.{state_numbered}
+use Rattle.kr_calm.specs.kr_seen.Carrying.{after_row, carried, memory_of, no_memory, with_memory_of}
+use Rattle.kr_calm.proofs.kr_seen.CarryLemmas.{own-memory}
+use Rattle.kr_calm.specs.kr_seen.CallWalks.{AreTargets}
+use Rattle.kr_calm.specs.kr_seen.declared.walks.Targets.{Targets as Told}
 use Rattle.kr_steps.specs.Calls.{LastsLawful, IsCalled, Runs}
 use Rattle.kr_calm.specs.Noted.{IsNoted, is_read, kills, noted}
 use Rattle.kr_turns.specs.Noting.{IsNotedOrSame}

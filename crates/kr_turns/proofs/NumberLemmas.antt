@@ -8,20 +8,20 @@ use Rattle.kr_hostview.specs.pr_base.declared.errno.Errno.{Errno}
 use Rattle.kr_steps.specs.rv_mem.Actions.{CarriedOut, carried_out}
 use Rattle.kr_steps.specs.rv_mem.Memory.{Memory}
 use Rattle.kr_steps.specs.rv_mem.declared.regs.Regs.{Regs}
-use Rattle.kr_seen.specs.kr_model.Applied.{Mounts, images, with_living}
-use Rattle.kr_seen.specs.kr_model.Lawful.{ArePids, RiseFrom}
-use Rattle.kr_seen.specs.kr_model.ProcessRows.{most_processes}
-use Rattle.kr_seen.specs.kr_model.Reply.{Reply, Replying}
-use Rattle.kr_seen.specs.kr_model.State as model
-use Rattle.kr_seen.specs.kr_model.State.{Image, Process, State, image_layout, process, with_process}
-use Rattle.kr_seen.specs.kr_model.declared.outcome.Outcome.{Outcome}
-use Rattle.kr_seen.specs.kr_model.declared.outcome.Outcome.TheVariants.{Answer, Wait, Ended, NoMemory}
-use Rattle.kr_seen.specs.Numbered.{process_numbered, state_numbered}
-use Rattle.kr_seen.specs.Mounts.{mounts_numbered}
-use Rattle.kr_seen.proofs.ChangeLemmas.{living-numbered}
-use Rattle.kr_seen.proofs.LookLemmas.{asked-numbered, known-numbered, process-numbered}
-use Rattle.kr_seen.proofs.StepLemmas.{image-numbered, picked-numbered, then-changes-numbered}
-use Rattle.kr_seen.specs.Carrying.{after_row, carried, memory_of, no_memory, with_memory, with_memory_of}
+use Rattle.law_steady.specs.kr_model.Applied.{Mounts, images, with_living}
+use Rattle.law_steady.specs.kr_model.Lawful.{ArePids, RiseFrom}
+use Rattle.law_steady.specs.kr_model.ProcessRows.{most_processes}
+use Rattle.law_steady.specs.kr_model.Reply.{Reply, Replying}
+use Rattle.law_steady.specs.kr_model.State as model
+use Rattle.law_steady.specs.kr_model.State.{Image, Process, State, image_layout, process, with_process}
+use Rattle.law_steady.specs.kr_model.declared.outcome.Outcome.{Outcome}
+use Rattle.law_steady.specs.kr_model.declared.outcome.Outcome.TheVariants.{Answer, Wait, Ended, NoMemory}
+use Rattle.kr_calm.specs.kr_seen.Numbered.{process_numbered, state_numbered}
+use Rattle.kr_calm.specs.kr_seen.Mounts.{mounts_numbered}
+use Rattle.kr_calm.proofs.kr_seen.ChangeLemmas.{living-numbered}
+use Rattle.kr_calm.proofs.kr_seen.LookLemmas.{asked-numbered, known-numbered, process-numbered}
+use Rattle.kr_calm.proofs.kr_seen.StepLemmas.{image-numbered, picked-numbered, then-changes-numbered}
+use Rattle.kr_calm.specs.kr_seen.Carrying.{after_row, carried, memory_of, no_memory, with_memory, with_memory_of}
 use Rattle.kr_execve.specs.Execution.{Program, after_execution, changes_of}
 use Rattle.kr_steps.specs.Answering.{answered, going, resumed, with_answer}
 use Rattle.kr_steps.specs.Computing.{computed}

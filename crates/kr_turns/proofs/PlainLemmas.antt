@@ -13,21 +13,21 @@ use Rattle.kr_execve.specs.kr_calls.declared.request.Request.{Request}
 use Rattle.kr_execve.specs.kr_calls.declared.request.Request.TheVariants as call
 use Rattle.kr_execve.specs.kr_view.View.{Row}
 use Rattle.kr_execve.specs.kr_view.declared.target.Reach.{Reach}
-use Rattle.kr_seen.specs.kr_model.Applied.{Mounts, all_applied, images}
-use Rattle.kr_seen.specs.kr_model.Known.{Known, known}
-use Rattle.kr_seen.specs.kr_model.Lawful.{ArePids}
-use Rattle.kr_seen.specs.kr_model.Operation.{operation}
-use Rattle.kr_seen.specs.kr_model.Reply.{Reply, refusal}
-use Rattle.kr_seen.specs.kr_model.State as model
-use Rattle.kr_seen.specs.kr_model.State.{Image, image_layout}
-use Rattle.kr_seen.specs.kr_model.Walks.{seen, targets_of}
-use Rattle.kr_seen.specs.kr_model.declared.outcome.Outcome.{Outcome}
+use Rattle.law_steady.specs.kr_model.Applied.{Mounts, all_applied, images}
+use Rattle.law_steady.specs.kr_model.Known.{Known, known}
+use Rattle.law_steady.specs.kr_model.Lawful.{ArePids}
+use Rattle.law_steady.specs.kr_model.Operation.{operation}
+use Rattle.law_steady.specs.kr_model.Reply.{Reply, refusal}
+use Rattle.law_steady.specs.kr_model.State as model
+use Rattle.law_steady.specs.kr_model.State.{Image, image_layout}
+use Rattle.law_steady.specs.kr_model.Walks.{seen, targets_of}
+use Rattle.law_steady.specs.kr_model.declared.outcome.Outcome.{Outcome}
 use Rattle.kr_steps.specs.law_allowed.Told.{mounts_walked}
-use Rattle.kr_seen.specs.kr_ops.declared.state.State.{State}
-use Rattle.kr_seen.specs.kr_ops.Meaning.{meaning}
-use Rattle.kr_seen.specs.Numbered.{process_numbered, state_numbered}
-use Rattle.kr_seen.specs.Carrying.{after_row, carried, memory_of, with_memory_of}
-use Rattle.kr_seen.specs.CallWalks.{call_reach}
+use Rattle.kr_hostview.specs.kr_ops.declared.state.State.{State}
+use Rattle.kr_hostview.specs.kr_ops.Meaning.{meaning}
+use Rattle.kr_calm.specs.kr_seen.Numbered.{process_numbered, state_numbered}
+use Rattle.kr_calm.specs.kr_seen.Carrying.{after_row, carried, memory_of, with_memory_of}
+use Rattle.kr_calm.specs.kr_seen.CallWalks.{call_reach}
 use Rattle.kr_steps.specs.Calls.{IsNoExec, IsCalled}
 use Rattle.kr_steps.proofs.ComputingLemmas.{refused-call}
 use Rattle.kr_execve.specs.Execution.{Program, after_execution, changes_of, execution, execution_reach, mount_of}
@@ -35,17 +35,17 @@ use Rattle.kr_execve.specs.Executing.{IsExecuted, done}
 use Rattle.kr_steps.specs.Answering.{answered, resumed}
 use Rattle.kr_steps.specs.Computing.{Requests, computed}
 use Rattle.kr_steps.specs.Settling.{settled}
-use Rattle.kr_seen.proofs.UsingLemmas.{memory-is}
+use Rattle.kr_calm.proofs.kr_seen.UsingLemmas.{memory-is}
 use Rattle.kr_turns.specs.Breaking.{decoded_rule, executed_rule, nothing_reached, operated_rule, plain_rule, plain_rule_of, requested_rule, rule_told}
 use Rattle.kr_turns.specs.Coming.{came_to}
 use Rattle.kr_turns.specs.PlainCall.{Came, after_decoding, child_if_made, child_of, decoded_reach, end_of, executed, handed_on, operated, plain_call, plain_call_of, plain_reach, plain_reach_of, refusal_told, replaced, request_reach, requested, row_on}
 use Rattle.kr_turns.specs.declared.plain.CallEnd.TheVariants as end
 use Rattle.kr_turns.specs.declared.plain.Plain.{Plain}
 use Rattle.kr_turns.proofs.BreakLemmas.{exec-told, idle-here}
-use Rattle.kr_stops.specs.Stopped.{nothing_handed}
-use Rattle.kr_stops.proofs.EditLemmas.{computed-lives}
+use Rattle.kr_steps.specs.kr_stops.Stopped.{nothing_handed}
+use Rattle.kr_steps.proofs.kr_stops.EditLemmas.{computed-lives}
 use Rattle.kr_turns.proofs.NumberLemmas.{answered-numbered, computed-numbered, execution-numbered, memory-numbered, resumed-numbered, row-numbered, settled-numbered}
-use Rattle.kr_seen.proofs.LookLemmas.{known-numbered, process-numbered}
+use Rattle.kr_calm.proofs.kr_seen.LookLemmas.{known-numbered, process-numbered}
 use Rattle.kr_calm.specs.declared.rule.Rule.{Rule}
 
 -- the number of an error is none of a child

@@ -1,12 +1,12 @@
 -- The call of a turn is its three steps.
 use Rattle.std.proofs.Common.{◌≡◌, ℕ, List, Option, Some, None, refl, sym, ap, subst, ◌∙◌}
 use Rattle.kr_execve.specs.kr_view.View.{Row}
-use Rattle.kr_seen.specs.kr_model.State.{Image, Process, State, process}
+use Rattle.law_steady.specs.kr_model.State.{Image, Process, State, process}
 use Rattle.kr_turns.specs.Breaking.{plain_rule}
 use Rattle.kr_turns.specs.PlainCall.{Came, plain_call}
 use Rattle.kr_turns.specs.Shelving.{lacks_in}
 use Rattle.kr_turns.specs.Turn.{ExitsIfAny, IsAfterPlain, IsWatchedCall, Leaves, Machine, Tally, after_born, after_end, after_exit, called, with_broken}
-use Rattle.kr_stops.specs.Watching.{Watcher, Watching}
+use Rattle.kr_steps.specs.kr_stops.Watching.{Watcher, Watching}
 use Rattle.kr_turns.specs.declared.plain.CallEnd.{CallEnd}
 use Rattle.kr_turns.specs.declared.plain.CallEnd.TheVariants as end
 use Rattle.kr_turns.specs.declared.steps.After.{After}

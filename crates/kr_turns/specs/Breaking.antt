@@ -9,13 +9,13 @@ use Rattle.kr_execve.specs.kr_calls.declared.request.Request.{Request}
 use Rattle.kr_execve.specs.kr_calls.declared.request.Request.TheVariants as call
 use Rattle.kr_execve.specs.kr_view.declared.target.Reach.{Reach}
 use Rattle.kr_execve.specs.kr_view.View.{Row}
-use Rattle.kr_seen.specs.kr_model.Applied.{Mounts}
-use Rattle.kr_seen.specs.kr_model.Change.{Change, End}
-use Rattle.kr_seen.specs.kr_model.State.{Image, Process, State, process}
-use Rattle.kr_seen.specs.kr_model.Walks.{targets_of}
+use Rattle.law_steady.specs.kr_model.Applied.{Mounts}
+use Rattle.law_steady.specs.kr_model.Change.{Change, End}
+use Rattle.law_steady.specs.kr_model.State.{Image, Process, State, process}
+use Rattle.law_steady.specs.kr_model.Walks.{targets_of}
 use Rattle.kr_steps.specs.law_allowed.Told.{mounts_walked}
-use Rattle.kr_seen.specs.Carrying.{memory_of, with_memory_of}
-use Rattle.kr_seen.specs.CallWalks.{call_reach}
+use Rattle.kr_calm.specs.kr_seen.Carrying.{memory_of, with_memory_of}
+use Rattle.kr_calm.specs.kr_seen.CallWalks.{call_reach}
 use Rattle.kr_calm.specs.Calm.{Asked, Course, broken_by, broken_by_changes, kept}
 use Rattle.kr_calm.specs.InUse.{is_directory_of, is_in_use}
 use Rattle.kr_calm.specs.Rules.{breaks_6}

@@ -1,14 +1,14 @@
 -- The three steps of a call, each by itself: its first stop, the call as the kernel carries it out, and its second stop.
 use Rattle.std.specs.Prelude.{◌≡◌, ℕ, Bool, List, Option, Some, None}
 use Rattle.kr_execve.specs.kr_view.View.{Row}
-use Rattle.kr_seen.specs.kr_model.State.{Image, Process, process}
+use Rattle.law_steady.specs.kr_model.State.{Image, Process, process}
 use Rattle.kr_turns.specs.Breaking.{plain_rule}
 use Rattle.kr_turns.specs.PlainCall.{Came, plain_call}
 use Rattle.kr_turns.specs.Shelving.{lacks_in}
 use Rattle.kr_turns.specs.Turn.{Exits, IsBorn, Machine, Tally, after_born, calling, with_broken, with_status}
-use Rattle.kr_stops.specs.Stopped.{Stopped}
-use Rattle.kr_stops.specs.Watching.{Watcher, Watching}
-use Rattle.kr_stops.specs.declared.handed.Handed.{Handed}
+use Rattle.kr_steps.specs.kr_stops.Stopped.{Stopped}
+use Rattle.kr_steps.specs.kr_stops.Watching.{Watcher, Watching}
+use Rattle.kr_steps.specs.kr_stops.declared.handed.Handed.{Handed}
 use Rattle.kr_turns.specs.declared.plain.CallEnd.{CallEnd}
 use Rattle.kr_turns.specs.declared.plain.CallEnd.TheVariants as end
 use Rattle.kr_turns.specs.declared.steps.After.{After}

@@ -1,8 +1,8 @@
 -- What a call came to in code.
 use Rattle.std.specs.Prelude.{ℕ}
-use Rattle.kr_seen.specs.kr_ops.declared.state.State.{State}
-use Rattle.kr_seen.specs.kr_ops.Meaning.{meaning}
-use Rattle.kr_seen.specs.Numbered.{state_numbered}
+use Rattle.kr_hostview.specs.kr_ops.declared.state.State.{State}
+use Rattle.kr_hostview.specs.kr_ops.Meaning.{meaning}
+use Rattle.kr_calm.specs.kr_seen.Numbered.{state_numbered}
 use Rattle.kr_turns.specs.PlainCall.{Came}
 use Rattle.kr_turns.specs.declared.plain.Plain.{Plain}
 

@@ -2,14 +2,14 @@
 use Rattle.std.specs.Prelude.{ℕ, ◌≤◌, ◌^◌, List, IsSome}
 use Rattle.kr_hostview.specs.pr_base.Peeks.{NamesAreTexts}
 use Rattle.kr_execve.specs.kr_view.View.{Row}
-use Rattle.kr_seen.specs.kr_model.Peeks.{peeked_of}
-use Rattle.kr_seen.specs.kr_model.State.{process}
-use Rattle.kr_seen.specs.kr_ops.declared.state.State.{State}
-use Rattle.kr_seen.specs.kr_ops.Meaning.{meaning}
-use Rattle.kr_seen.specs.Numbered.{state_numbered}
+use Rattle.law_steady.specs.kr_model.Peeks.{peeked_of}
+use Rattle.law_steady.specs.kr_model.State.{process}
+use Rattle.kr_hostview.specs.kr_ops.declared.state.State.{State}
+use Rattle.kr_hostview.specs.kr_ops.Meaning.{meaning}
+use Rattle.kr_calm.specs.kr_seen.Numbered.{state_numbered}
 use Rattle.kr_steps.specs.Calls.{Runs}
-use Rattle.kr_stops.specs.Stopped.{Stopped}
-use Rattle.kr_stops.specs.declared.handed.Handed.{Handed}
+use Rattle.kr_steps.specs.kr_stops.Stopped.{Stopped}
+use Rattle.kr_steps.specs.kr_stops.declared.handed.Handed.{Handed}
 
 -- the process of a number in a state of the code
 abbrev pub stopped_in : {T : Type 0} {M : ℕ} → (T → ℕ) → State T M → (pid : ℕ) → Handed → Stopped

@@ -3,19 +3,19 @@ use Rattle.std.specs.Prelude.{◌≡◌, ℕ, false, List, Some, None}
 use Rattle.kr_execve.specs.kr_view.View.{Row}
 use Rattle.kr_execve.specs.kr_calls.CallTable.{line}
 use Rattle.kr_execve.specs.kr_calls.declared.request.Request.{Request}
-use Rattle.kr_seen.specs.kr_tree.Lawful.{IsKept}
-use Rattle.kr_seen.specs.kr_model.Judged.{HasShape}
-use Rattle.kr_seen.specs.kr_model.Known.{known}
-use Rattle.kr_seen.specs.kr_model.State.{Image, Process, State, image_layout}
-use Rattle.kr_seen.specs.kr_model.Walks.{seen}
+use Rattle.kr_execve.specs.kr_tree.Lawful.{IsKept}
+use Rattle.law_steady.specs.kr_model.Judged.{HasShape}
+use Rattle.law_steady.specs.kr_model.Known.{known}
+use Rattle.law_steady.specs.kr_model.State.{Image, Process, State, image_layout}
+use Rattle.law_steady.specs.kr_model.Walks.{seen}
 use Rattle.kr_steps.specs.Waiting.{picked_process}
 use Rattle.kr_turns.specs.CallSteps.{AreThreeSteps, three_steps}
 use Rattle.kr_turns.specs.PlainCall.{operated, plain_call}
 use Rattle.kr_turns.specs.Target.{IsLookedAt, instead_of, target_by}
 use Rattle.kr_turns.specs.Turn.{IsTurnOf, IsWatchedCall, Machine, turn, watched_call, with_part}
-use Rattle.kr_stops.specs.Remembering.{can_alter_shape}
-use Rattle.kr_stops.specs.Stopped.{image_in}
-use Rattle.kr_stops.specs.Watching.{IsGraph, Watcher, Watching}
+use Rattle.kr_steps.specs.kr_stops.Remembering.{can_alter_shape}
+use Rattle.kr_steps.specs.kr_stops.Stopped.{image_in}
+use Rattle.kr_steps.specs.kr_stops.Watching.{IsGraph, Watcher, Watching}
 
 -- where the relations of a watcher are the graphs of functions on a part of what it keeps, a turn by the relations is the turn by the
 -- functions on that part; and where no process is ready nothing changes

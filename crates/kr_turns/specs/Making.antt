@@ -9,14 +9,14 @@ use Rattle.kr_steps.specs.rv_cpu.declared.event.Event.TheVariants.{Next, Call, K
 use Rattle.kr_steps.specs.law_allowed.Others.{LivesOn}
 use Rattle.kr_execve.specs.kr_view.View.{Row}
 use Rattle.kr_calm.specs.declared.rule.Rule.{Rule}
-use Rattle.kr_seen.specs.kr_model.State.{Image, Process, State as Model, process}
-use Rattle.kr_seen.specs.kr_ops.declared.state.State.{State}
-use Rattle.kr_seen.specs.kr_ops.Meaning.{meaning}
-use Rattle.kr_seen.specs.Numbered.{state_numbered}
-use Rattle.kr_stops.specs.Remembering.{FreesCaller}
-use Rattle.kr_stops.specs.Stopped.{nothing_handed}
-use Rattle.kr_stops.specs.Watching.{Watching}
-use Rattle.kr_stops.specs.declared.handed.Handed.{Handed}
+use Rattle.law_steady.specs.kr_model.State.{Image, Process, State as Model, process}
+use Rattle.kr_hostview.specs.kr_ops.declared.state.State.{State}
+use Rattle.kr_hostview.specs.kr_ops.Meaning.{meaning}
+use Rattle.kr_calm.specs.kr_seen.Numbered.{state_numbered}
+use Rattle.kr_steps.specs.kr_stops.Remembering.{FreesCaller}
+use Rattle.kr_steps.specs.kr_stops.Stopped.{nothing_handed}
+use Rattle.kr_steps.specs.kr_stops.Watching.{Watching}
+use Rattle.kr_steps.specs.kr_stops.declared.handed.Handed.{Handed}
 use Rattle.kr_turns.specs.Breaking.{idle_rule, killed_rule}
 use Rattle.kr_turns.specs.CallSteps.{IsCarriedBy, IsCarriedOut, IsEntered, IsExited}
 use Rattle.kr_turns.specs.Coming.{came_to}

@@ -13,22 +13,22 @@ use Rattle.kr_execve.specs.kr_calls.declared.request.Request.TheVariants as call
 use Rattle.kr_execve.specs.kr_view.View.{Row, is_root_place}
 use Rattle.kr_execve.specs.kr_view.Walk.{PlaceTarget}
 use Rattle.kr_execve.specs.kr_view.declared.target.Reach.{Reach}
-use Rattle.kr_seen.specs.kr_model.Known.{known}
-use Rattle.kr_seen.specs.kr_model.Operation.{operation}
-use Rattle.kr_seen.specs.kr_model.Reply.{Reply}
-use Rattle.kr_seen.specs.kr_model.State.{Image, Process, State, image_layout, process}
-use Rattle.kr_seen.specs.kr_model.Walks.{Targets, seen, targets_of}
-use Rattle.kr_seen.specs.kr_model.declared.outcome.Outcome.{Outcome}
-use Rattle.kr_seen.specs.kr_model.declared.outcome.Outcome.TheVariants.{Answer, Wait, Ended, NoMemory}
+use Rattle.law_steady.specs.kr_model.Known.{known}
+use Rattle.law_steady.specs.kr_model.Operation.{operation}
+use Rattle.law_steady.specs.kr_model.Reply.{Reply}
+use Rattle.law_steady.specs.kr_model.State.{Image, Process, State, image_layout, process}
+use Rattle.law_steady.specs.kr_model.Walks.{Targets, seen, targets_of}
+use Rattle.law_steady.specs.kr_model.declared.outcome.Outcome.{Outcome}
+use Rattle.law_steady.specs.kr_model.declared.outcome.Outcome.TheVariants.{Answer, Wait, Ended, NoMemory}
 use Rattle.kr_steps.specs.law_allowed.Told.{mounts_walked}
-use Rattle.kr_seen.specs.Carrying.{after_row, carried, memory_of}
-use Rattle.kr_seen.specs.CallWalks.{call_reach}
+use Rattle.kr_calm.specs.kr_seen.Carrying.{after_row, carried, memory_of}
+use Rattle.kr_calm.specs.kr_seen.CallWalks.{call_reach}
 use Rattle.kr_execve.specs.Execution.{Program, after_execution, execution, execution_reach, mount_of}
 use Rattle.kr_steps.specs.Answering.{answered, resumed}
 use Rattle.kr_steps.specs.Computing.{computed}
 use Rattle.kr_steps.specs.Settling.{settled}
-use Rattle.kr_stops.specs.Stopped.{nothing_handed}
-use Rattle.kr_stops.specs.declared.handed.Handed.{Handed}
+use Rattle.kr_steps.specs.kr_stops.Stopped.{nothing_handed}
+use Rattle.kr_steps.specs.kr_stops.declared.handed.Handed.{Handed}
 use Rattle.kr_turns.specs.Target.{target_of}
 use Rattle.kr_turns.specs.declared.plain.CallEnd.{CallEnd}
 use Rattle.kr_turns.specs.declared.plain.CallEnd.TheVariants as end

@@ -2,10 +2,10 @@
 use Rattle.std.specs.Prelude.{ℕ, zero, suc, ◌%◌, List, [], ◌∷◌, length, Option, Some, None, get_or}
 use Rattle.std.specs.Option.{option_map_or}
 use Rattle.kr_execve.specs.kr_view.View.{Row}
-use Rattle.kr_seen.specs.kr_model.State.{Image, State}
+use Rattle.law_steady.specs.kr_model.State.{Image, State}
 use Rattle.kr_steps.specs.Waiting.{ready_processes}
 use Rattle.kr_turns.specs.Turn.{Machine, turn}
-use Rattle.kr_stops.specs.Watching.{Watcher}
+use Rattle.kr_steps.specs.kr_stops.Watching.{Watcher}
 
 -- which of the ready processes runs in a turn, and for how many instructions at most
 pub record Slot : Type 0 where

@@ -1,9 +1,9 @@
 -- The shelf of a call, in the state of its kernel.
 use Rattle.std.specs.Prelude.{ℕ, Bool}
-use Rattle.kr_seen.specs.kr_model.State.{Image, State}
+use Rattle.law_steady.specs.kr_model.State.{Image, State}
 use Rattle.kr_calm.specs.Shelf.{lacks_shelf_by, shelved_by}
 use Rattle.kr_steps.specs.Computing.{computed}
-use Rattle.kr_stops.specs.Stopped.{image_in}
+use Rattle.kr_steps.specs.kr_stops.Stopped.{image_in}
 
 module _ {T : Type 0} (marks pid : ℕ) where
   -- a process that comes to a call with a path marks its shelf, where it has one

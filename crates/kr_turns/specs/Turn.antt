@@ -5,9 +5,9 @@ use Rattle.kr_steps.specs.rv_cpu.Run.{ran}
 use Rattle.kr_steps.specs.rv_cpu.declared.event.Event.{Event}
 use Rattle.kr_steps.specs.rv_cpu.declared.event.Event.TheVariants.{Next, Call, Killed}
 use Rattle.kr_execve.specs.kr_view.View.{Row}
-use Rattle.kr_seen.specs.kr_model.Applied.{applied, images}
-use Rattle.kr_seen.specs.kr_model.Change.{End}
-use Rattle.kr_seen.specs.kr_model.State.{Image, Process, State, process}
+use Rattle.law_steady.specs.kr_model.Applied.{applied, images}
+use Rattle.law_steady.specs.kr_model.Change.{End}
+use Rattle.law_steady.specs.kr_model.State.{Image, Process, State, process}
 use Rattle.kr_steps.specs.Computing.{computed}
 use Rattle.kr_steps.specs.Waiting.{picked_process}
 use Rattle.kr_calm.specs.Calm.{kept}
@@ -15,8 +15,8 @@ use Rattle.kr_calm.specs.declared.rule.Rule.{Rule}
 use Rattle.kr_turns.specs.Breaking.{idle_rule, killed_rule, no_mounts, plain_rule}
 use Rattle.kr_turns.specs.PlainCall.{Came, plain_call}
 use Rattle.kr_turns.specs.Shelving.{lacks_in, shelved_in}
-use Rattle.kr_stops.specs.Stopped.{Stopped, nothing_handed}
-use Rattle.kr_stops.specs.Watching.{Watcher, Watching}
+use Rattle.kr_steps.specs.kr_stops.Stopped.{Stopped, nothing_handed}
+use Rattle.kr_steps.specs.kr_stops.Watching.{Watcher, Watching}
 use Rattle.kr_turns.specs.declared.plain.CallEnd.{CallEnd}
 use Rattle.kr_turns.specs.declared.plain.CallEnd.TheVariants as end
 

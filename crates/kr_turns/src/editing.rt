@@ -3,14 +3,14 @@ ghost use Rattle.std.specs.Prelude.{◌≡◌, ◌<◌, ◌↔◌, ℕ, List, Is
 ghost use Rattle.kr_steps.specs.rv_mem.Memory.{after_read, with_pages};
 ghost use Rattle.kr_steps.specs.rv_mem.Pages.{allows_all, bytes_from, written};
 ghost use Rattle.kr_steps.specs.Calls.{Runs};
-ghost use Rattle.kr_seen.specs.kr_model.State.{process};
-ghost use Rattle.kr_seen.specs.kr_ops.Meaning.{meaning};
-ghost use Rattle.kr_seen.specs.kr_ops.Sound.{IsSoundFor};
+ghost use Rattle.law_steady.specs.kr_model.State.{process};
+ghost use Rattle.kr_hostview.specs.kr_ops.Meaning.{meaning};
+ghost use Rattle.kr_hostview.specs.kr_ops.Sound.{IsSoundFor};
 ghost use Rattle.kr_steps.specs.Computing.{computed};
-ghost use Rattle.kr_stops.specs.Stopped.{image_in};
+ghost use Rattle.kr_steps.specs.kr_stops.Stopped.{image_in};
 ghost use Rattle.kr_execve.specs.kr_view.View.{Row};
 
-use kr_seen::below::State;
+use kr_hostview::below::State;
 use kr_steps::below::{BadAddress, StoreFault, Use};
 
 /// A register of a living process.

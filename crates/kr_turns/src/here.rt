@@ -3,21 +3,21 @@ ghost use Rattle.std.specs.Prelude.{◌≡◌, ◌≤◌, ◌^◌, IsSome, refl}
 ghost use Rattle.kr_hostview.specs.NoJumps.{no-jump};
 ghost use Rattle.kr_hostview.specs.pr_base.Peeks.{NamesAreTexts};
 ghost use Rattle.kr_steps.specs.Calls.{Runs};
-ghost use Rattle.kr_seen.specs.kr_model.Peeks.{peeked_of};
-ghost use Rattle.kr_seen.specs.kr_model.State.{process};
-ghost use Rattle.kr_seen.specs.kr_ops.Meaning.{meaning};
-ghost use Rattle.kr_seen.specs.kr_ops.Sound.{IsOfView};
+ghost use Rattle.law_steady.specs.kr_model.Peeks.{peeked_of};
+ghost use Rattle.law_steady.specs.kr_model.State.{process};
+ghost use Rattle.kr_hostview.specs.kr_ops.Meaning.{meaning};
+ghost use Rattle.kr_hostview.specs.kr_ops.Sound.{IsOfView};
 ghost use Rattle.kr_turns.specs.Held.{Around, Left, Stands, around_of, left_of, stopped_in, stopped_of};
 ghost use Rattle.kr_turns.specs.HeldLaws.{held-texts, left-parts};
 
 use crate::editing;
 use kr_execve::below::{CallFault, Places, Request};
-use kr_hostview::below::{BaseKind, Bytes, NoMemory, PeekFault, PeekKind, Peeks};
+use kr_hostview::below::{
+    BaseKind, Bytes, NoMemory, PeekFault, PeekKind, Peeks, State, lawful_states_are_sound,
+};
 use kr_hostview::host_peeks;
-use kr_seen::below::{State, lawful_states_are_sound};
-use kr_steps::below::{BadAddress, StoreFault, Use};
+use kr_steps::below::{BadAddress, Handed, StoreFault, Tracee, Use};
 use kr_steps::request;
-use kr_stops::{Handed, Tracee};
 use std::alloc::Global;
 use std::marker::Model;
 
@@ -37,8 +37,8 @@ impl<'a, P: Places, const M: u8> Model for Here<'a, P, M> {
     ghost use Rattle.std.specs.Coded.{codes};
     ghost use Rattle.kr_steps.specs.rv_mem.Memory.{memory_code};
     ghost use Rattle.kr_execve.specs.kr_tree.Tree.{tree_code};
-    ghost use Rattle.kr_seen.specs.kr_files.Descriptors.{descriptors_code};
-    ghost use Rattle.kr_seen.specs.kr_files.Files.{kept_code};
+    ghost use Rattle.law_steady.specs.kr_files.Descriptors.{descriptors_code};
+    ghost use Rattle.law_steady.specs.kr_files.Files.{kept_code};
     ghost use Rattle.kr_turns.specs.Held.{Held, Stands};
 
     ghost Value = { Held P P.Mount M };

@@ -1,20 +1,20 @@
 //! Which calm rule a turn broke, where marks are kept.
 ghost use Rattle.std.specs.Prelude.{◌≡◌, ◌≢◌, ◌||◌, ℕ, List, Ok, Some, false, IsSome};
 ghost use Rattle.kr_calm.specs.Questions.{HaveFewPoints};
-ghost use Rattle.kr_seen.specs.kr_model.declared.outcome.Outcome.TheVariants.{NoMemory as WantOfMemory};
+ghost use Rattle.law_steady.specs.kr_model.declared.outcome.Outcome.TheVariants.{NoMemory as WantOfMemory};
 ghost use Rattle.kr_steps.specs.law_allowed.Told.{mounts_walked};
-ghost use Rattle.kr_seen.specs.Carrying.{after_row, memory_of};
+ghost use Rattle.kr_calm.specs.kr_seen.Carrying.{after_row, memory_of};
 ghost use Rattle.kr_execve.specs.kr_calls.declared.request.Request.{Request as AnyRequest};
-ghost use Rattle.kr_seen.specs.kr_model.State as model;
-ghost use Rattle.kr_seen.specs.kr_model.Walks.{targets_of};
-ghost use Rattle.kr_seen.specs.CallWalks.{AreTargets};
-ghost use Rattle.kr_seen.specs.Numbered.{state_numbered};
+ghost use Rattle.law_steady.specs.kr_model.State as model;
+ghost use Rattle.law_steady.specs.kr_model.Walks.{targets_of};
+ghost use Rattle.kr_calm.specs.kr_seen.CallWalks.{AreTargets};
+ghost use Rattle.kr_calm.specs.kr_seen.Numbered.{state_numbered};
 ghost use Rattle.kr_turns.specs.Looking.{IsAhead, judged, read_told};
 ghost use Rattle.kr_turns.specs.Noting.{IsNotedOrSame};
 ghost use Rattle.kr_turns.specs.PlainCall.{row_on};
 ghost use Rattle.kr_execve.specs.kr_view.View.{Row};
-ghost use Rattle.kr_seen.specs.kr_ops.Meaning.{meaning};
-ghost use Rattle.kr_seen.specs.kr_ops.Sound.{IsServed, IsSound, IsSoundFor};
+ghost use Rattle.kr_hostview.specs.kr_ops.Meaning.{meaning};
+ghost use Rattle.kr_hostview.specs.kr_ops.Sound.{IsServed, IsSound, IsSoundFor};
 ghost use Rattle.kr_turns.specs.Breaking.{ending_rule, last_rule, nothing_reached, rule_told};
 
 use kr_calm::{
@@ -22,8 +22,7 @@ use kr_calm::{
 };
 use kr_execve::below::{Places, Reach, Request};
 use kr_execve::marks_read;
-use kr_seen::Targets;
-use kr_seen::below::{Outcome, State};
+use kr_hostview::below::{Outcome, State, Targets};
 
 /// Nothing was reached.
 pub(crate) const NOTHING: Reach = Reach {

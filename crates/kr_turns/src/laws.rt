@@ -1,8 +1,8 @@
 //! Laws of turns, each carried by a function that does nothing.
 ghost use Rattle.kr_turns.specs.Laws.{CallsAreThreeSteps, PlainCallsLeaveShape, TargetsAreTold, TurnsAreFunctions, WatchedCallsAreThreeSteps};
-ghost use Rattle.kr_stops.specs.Watching.{watching};
+ghost use Rattle.kr_steps.specs.kr_stops.Watching.{watching};
 
-use kr_stops::Stops;
+use kr_steps::below::Stops;
 
 /// Where the relations of a watcher are graphs of functions, a turn is the definition's by these functions. So it is where they are graphs on a
 /// part of what the watcher keeps.

@@ -42,7 +42,7 @@ mod steps;
 mod target;
 
 pub use editing::register;
+pub use kr_steps::below::{Handed, Stops, Tracee, Unwatched};
 pub use kr_steps::{picked, ready};
-pub use kr_stops::{Handed, Stops, Tracee, Unwatched};
 pub use plain::{CallEnd, Plain, plain_call};
 pub use steps::{After, CallMade, Halt, Stretch, enter_call, leave_call, make_call, run_for};

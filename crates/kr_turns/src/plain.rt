@@ -1,15 +1,15 @@
 //! A call as the kernel carries it out.
 ghost use Rattle.std.specs.Prelude.{◌≡◌, ◌≢◌, ◌<◌, ◌^◌, ◌||◌, ℕ, suc, List, length, false, Ok, IfOk, OnOk};
-ghost use Rattle.kr_seen.specs.Carrying.{memory_of};
+ghost use Rattle.kr_calm.specs.kr_seen.Carrying.{memory_of};
 ghost use Rattle.kr_turns.specs.Breaking.{nothing_reached, plain_rule, requested_rule, rule_told};
 ghost use Rattle.kr_steps.specs.Calls.{CanBeMade, CanCall, IsNoExec, Runs};
 ghost use Rattle.kr_steps.specs.law_allowed.Texts.{IsText};
-ghost use Rattle.kr_seen.specs.kr_model.Walks.{targets_of};
-ghost use Rattle.kr_seen.specs.kr_model.declared.outcome.Outcome.TheVariants.{NoMemory as WantOfMemory};
-ghost use Rattle.kr_seen.specs.kr_ops.Meaning.{meaning};
-ghost use Rattle.kr_seen.specs.kr_ops.Sound.{IsSound, IsSoundFor};
-ghost use Rattle.kr_seen.specs.CallWalks.{AreTargets};
-ghost use Rattle.kr_seen.specs.Numbered.{state_numbered};
+ghost use Rattle.law_steady.specs.kr_model.Walks.{targets_of};
+ghost use Rattle.law_steady.specs.kr_model.declared.outcome.Outcome.TheVariants.{NoMemory as WantOfMemory};
+ghost use Rattle.kr_hostview.specs.kr_ops.Meaning.{meaning};
+ghost use Rattle.kr_hostview.specs.kr_ops.Sound.{IsSound, IsSoundFor};
+ghost use Rattle.kr_calm.specs.kr_seen.CallWalks.{AreTargets};
+ghost use Rattle.kr_calm.specs.kr_seen.Numbered.{state_numbered};
 ghost use Rattle.kr_execve.specs.kr_tree.Lawful.{AreBytes};
 ghost use Rattle.kr_steps.specs.Settling.{settled};
 ghost use Rattle.kr_turns.specs.Coming.{came_to};
@@ -24,11 +24,11 @@ use crate::target::target_of;
 use kr_calm::Rule;
 use kr_execve::below::{CallFault, Place, Places, Reach, Request, WalkFault};
 use kr_execve::{Executed, execute};
-use kr_hostview::below::{Errno, NoMemory};
-use kr_seen::below::{Outcome, State, lawful_states_are_sound};
-use kr_seen::{Targets, walk_paths};
+use kr_hostview::below::{
+    Errno, NoMemory, Outcome, State, Targets, lawful_states_are_sound, walk_paths,
+};
+use kr_steps::below::{Handed, NOTHING_HANDED};
 use kr_steps::{answer, carry_out_along, request, resume, stay};
-use kr_stops::{Handed, NOTHING_HANDED};
 use std::alloc::Global;
 
 /// The signal that kills a process which writes into a pipe that nobody reads.

@@ -1,14 +1,14 @@
 //! The shelf of a call, in the state of its kernel.
 ghost use Rattle.std.specs.Prelude.{◌≡◌, ℕ, List};
 ghost use Rattle.kr_steps.specs.Calls.{Runs};
-ghost use Rattle.kr_seen.specs.kr_model.State.{process};
-ghost use Rattle.kr_seen.specs.kr_ops.Meaning.{meaning};
-ghost use Rattle.kr_seen.specs.kr_ops.Sound.{IsSoundFor};
+ghost use Rattle.law_steady.specs.kr_model.State.{process};
+ghost use Rattle.kr_hostview.specs.kr_ops.Meaning.{meaning};
+ghost use Rattle.kr_hostview.specs.kr_ops.Sound.{IsSoundFor};
 ghost use Rattle.kr_turns.specs.Shelving.{lacks_in, shelved_in};
 ghost use Rattle.kr_execve.specs.kr_view.View.{Row};
 
 use kr_calm::mark_shelf;
-use kr_seen::below::State;
+use kr_hostview::below::State;
 use kr_steps::below::Use;
 
 /// Marks the shelf of a living process that stands at a call with a path. Whether such a call has no shelf. Where marks aren't kept it

@@ -3,17 +3,17 @@ ghost use Rattle.std.specs.Prelude.{◌≡◌, ◌<◌, ◌^◌, ℕ, suc, List,
 ghost use Rattle.kr_steps.specs.law_allowed.Told.{SourcesAreNamed};
 ghost use Rattle.kr_steps.specs.Calls.{Runs};
 ghost use Rattle.kr_execve.specs.kr_view.View.{Row};
-ghost use Rattle.kr_seen.specs.Numbered.{state_numbered};
-ghost use Rattle.kr_seen.specs.kr_model.State.{process};
-ghost use Rattle.kr_seen.specs.kr_ops.Meaning.{meaning};
-ghost use Rattle.kr_seen.specs.kr_ops.Sound.{IsSound};
+ghost use Rattle.kr_calm.specs.kr_seen.Numbered.{state_numbered};
+ghost use Rattle.law_steady.specs.kr_model.State.{process};
+ghost use Rattle.kr_hostview.specs.kr_ops.Meaning.{meaning};
+ghost use Rattle.kr_hostview.specs.kr_ops.Sound.{IsSound};
 ghost use Rattle.kr_turns.specs.Agreeing.{AgreesIn};
 ghost use Rattle.kr_turns.specs.CallSteps.{behind_if};
 ghost use Rattle.kr_turns.specs.Making.{IsCallMade, IsEntryMade, IsExitMade, IsLeftBehind, IsStretch, LeavesOthers, RunsFor, StaysBetween};
-ghost use Rattle.kr_stops.specs.Remembering.{AgreesAt, FreesCaller, KeepsAllFree, KeepsOthersFree, StillAgrees};
-ghost use Rattle.kr_stops.specs.Watching.{watching};
+ghost use Rattle.kr_steps.specs.kr_stops.Remembering.{AgreesAt, FreesCaller, KeepsAllFree, KeepsOthersFree, StillAgrees};
+ghost use Rattle.kr_steps.specs.kr_stops.Watching.{watching};
 ghost use Rattle.kr_turns.specs.Held.{Stands, stopped_in};
-ghost use Rattle.kr_stops.specs.Stopped.{IsEdited, nothing_handed};
+ghost use Rattle.kr_steps.specs.kr_stops.Stopped.{IsEdited, nothing_handed};
 ghost use Rattle.kr_turns.specs.Turn.{IsBorn};
 
 use crate::here::Here;
@@ -23,11 +23,9 @@ use crate::shelving::shelve;
 use kr_calm::Rule;
 use kr_execve::below::Places;
 use kr_execve::marks_read;
-use kr_hostview::below::NoMemory;
-use kr_seen::below::{State, lawful_states_are_sound};
-use kr_steps::below::Event;
+use kr_hostview::below::{NoMemory, State, lawful_states_are_sound};
+use kr_steps::below::{Event, Handed, NOTHING_HANDED, Stops};
 use kr_steps::{compute, kill};
-use kr_stops::{Handed, NOTHING_HANDED, Stops};
 use std::alloc::Global;
 
 /// How some instructions of a process ended.

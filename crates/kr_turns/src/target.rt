@@ -1,17 +1,16 @@
 //! The inode to which the first path of a call led, or that of what stands in a path's place.
 ghost use Rattle.std.specs.Prelude.{◌≡◌, ℕ, Ok};
 ghost use Rattle.std.specs.Option.{option_and_then};
-ghost use Rattle.kr_seen.specs.CallWalks.{AreTargets};
-ghost use Rattle.kr_seen.specs.kr_model.Asking.{descriptor_number, is_working_directory};
-ghost use Rattle.kr_seen.specs.kr_model.Known.{known};
-ghost use Rattle.kr_seen.specs.kr_model.State.{image_layout};
-ghost use Rattle.kr_seen.specs.kr_ops.Meaning.{meaning};
-ghost use Rattle.kr_seen.specs.kr_ops.Sound.{IsSound, IsSoundFor};
+ghost use Rattle.kr_calm.specs.kr_seen.CallWalks.{AreTargets};
+ghost use Rattle.law_steady.specs.kr_model.Asking.{descriptor_number, is_working_directory};
+ghost use Rattle.law_steady.specs.kr_model.Known.{known};
+ghost use Rattle.law_steady.specs.kr_model.State.{image_layout};
+ghost use Rattle.kr_hostview.specs.kr_ops.Meaning.{meaning};
+ghost use Rattle.kr_hostview.specs.kr_ops.Sound.{IsSound, IsSoundFor};
 ghost use Rattle.kr_turns.specs.Target.{inode_at, inode_here, inode_instead, inode_under, instead_of, target_of};
 
 use kr_execve::below::{Place, Request};
-use kr_seen::below::{AT_FDCWD, Host, State};
-use kr_seen::{Targets, is_processes_host};
+use kr_hostview::below::{AT_FDCWD, Host, State, Targets, is_processes_host};
 
 /// What stands in the place of a path that a call doesn't have, or whose path is empty.
 #[derive(Clone, Copy)]

@@ -14,6 +14,7 @@
 //! Only tested, or not shown: `view_tests`: walks over a tree that is made, in each mode, and what they reach.
 #![tactic(auto)]
 
+pub mod below;
 mod component;
 mod guest;
 mod name;

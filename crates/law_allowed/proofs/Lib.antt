@@ -1,3 +1,4 @@
+pub use Rattle.law_lawful.proofs.pr_base as pr_base
 pub use Rattle.law_lawful.proofs.kr_tree as kr_tree
 pub use Rattle.law_lawful.proofs.kr_view as kr_view
 pub use Rattle.law_lawful.proofs.kr_model as kr_model

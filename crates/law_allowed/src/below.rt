@@ -1,5 +1,6 @@
 //! What those above name of the crates below.
 
 pub use law_lawful::below::{
-    CallFault, Outcome, Places, Reach, Request, Use, WalkFault, What, decode,
+    CallFault, NoProcs, Outcome, Place, Places, Plain, Reach, Request, Target, Tree, Use,
+    WalkFault, What, decode,
 };

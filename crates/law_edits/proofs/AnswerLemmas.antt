@@ -13,7 +13,7 @@ use Rattle.law_walks.specs.kr_model.Reply.{done, refuse}
 use Rattle.law_walks.specs.kr_model.State.{Image, process}
 use Rattle.kr_turns.specs.kr_stops.Stopped.{IsThere, Stopped, image_at}
 use Rattle.kr_turns.proofs.kr_stops.EditLemmas.{computed-lives, image-edited}
-use Rattle.pt_args.specs.declared.edit.Edit.TheVariants.{Cancel, Emulate}
+use Rattle.pt_tracer.specs.pt_args.declared.edit.Edit.TheVariants.{Cancel, Emulate}
 use Rattle.pt_tracer.specs.pt_faker.Faking.{no_longer_called}
 use Rattle.pt_tracer.specs.pt_faker.Stopping.{after_poke, memory_at, with_register}
 use Rattle.pt_tracer.specs.pt_ident.Identity.{refusal}

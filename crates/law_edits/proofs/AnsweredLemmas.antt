@@ -7,15 +7,15 @@ use Rattle.pt_tracer.specs.pr_base.declared.errno.Errno.TheVariants.{EFAULT, ENO
 use Rattle.pt_tracer.specs.rv_mem.Actions.{CarriedOut, carried_out}
 use Rattle.pt_tracer.specs.rv_mem.Memory.{Memory, with_pages}
 use Rattle.pt_tracer.specs.rv_mem.declared.regs.Regs.{Regs}
-use Rattle.pt_args.specs.kr_calls.Decoding.{Decoded, decoding}
+use Rattle.law_walks.specs.kr_calls.Decoding.{Decoded, decoding}
 use Rattle.law_walks.specs.kr_model.State.{Image, Process, process}
 use Rattle.kr_turns.specs.kr_steps.Computing.{computed}
 use Rattle.kr_turns.specs.PlainCall.{after_decoding, plain_call_of, refusal_told}
 use Rattle.kr_turns.specs.kr_stops.Stopped.{IsThere, Stopped, edited, image_at, no_image, nothing_handed}
 use Rattle.kr_turns.specs.declared.plain.CallEnd.TheVariants as end
-use Rattle.pt_args.specs.Laws.{poked as pages_poked}
-use Rattle.pt_args.specs.declared.edit.Edit.{Edit}
-use Rattle.pt_args.specs.declared.edit.Edit.TheVariants.{Cancel, Emulate, Pass, Swap}
+use Rattle.pt_tracer.specs.pt_args.Laws.{poked as pages_poked}
+use Rattle.pt_tracer.specs.pt_args.declared.edit.Edit.{Edit}
+use Rattle.pt_tracer.specs.pt_args.declared.edit.Edit.TheVariants.{Cancel, Emulate, Pass, Swap}
 use Rattle.pt_tracer.specs.pt_faker.Faking.{no_call, no_longer_called}
 use Rattle.pt_tracer.specs.pt_faker.Stopping.{after_request, decoded_at, memory_at, with_memory}
 use Rattle.pt_tracer.specs.Poking.{may_poke, poked}

@@ -8,10 +8,10 @@ use Rattle.pt_tracer.specs.rv_mem.Pages.{Pages, allows_all}
 use Rattle.pt_tracer.specs.rv_mem.declared.regs.Regs.{Regs}
 use Rattle.pt_tracer.specs.rv_mem.declared.rights.Use.TheVariants.{Read, Write}
 use Rattle.law_walks.specs.kr_view.View.{Row}
-use Rattle.pt_args.specs.kr_calls.Arguments.{number}
-use Rattle.pt_args.specs.kr_calls.Decoding.{Decoded, decoding}
-use Rattle.pt_args.specs.kr_calls.declared.request.Request.{Request}
-use Rattle.pt_args.specs.kr_calls.declared.request.Request.TheVariants as call
+use Rattle.law_walks.specs.kr_calls.Arguments.{number}
+use Rattle.law_walks.specs.kr_calls.Decoding.{Decoded, decoding}
+use Rattle.law_walks.specs.kr_calls.declared.request.Request.{Request}
+use Rattle.law_walks.specs.kr_calls.declared.request.Request.TheVariants as call
 use Rattle.law_walks.specs.kr_model.Known.{known}
 use Rattle.law_walks.specs.kr_model.Operation.{operation}
 use Rattle.law_walks.specs.kr_model.State.{Image, Process, State, image_layout, process}

@@ -16,9 +16,9 @@ use Rattle.law_walks.specs.kr_model.ProcessDirectory.{name_text, space_of}
 use Rattle.law_walks.specs.kr_model.Reply.{done, refuse}
 use Rattle.law_walks.specs.kr_model.State.{Image, Process, State}
 use Rattle.kr_turns.specs.kr_stops.Stopped.{IsThere, Stopped}
-use Rattle.pt_args.specs.Bases.{tagged_text}
-use Rattle.pt_args.specs.declared.edit.Edit.TheVariants.{Cancel, Emulate}
-use Rattle.pt_args.specs.Shelving.{with_zero}
+use Rattle.pt_tracer.specs.pt_args.Bases.{tagged_text}
+use Rattle.pt_tracer.specs.pt_args.declared.edit.Edit.TheVariants.{Cancel, Emulate}
+use Rattle.pt_tracer.specs.pt_args.Shelving.{with_zero}
 use Rattle.pt_tracer.specs.pt_bind.Binding.{guest_of}
 use Rattle.pt_tracer.specs.pt_bind.Tags.{TagTable, tag_of}
 use Rattle.pt_tracer.specs.pt_bind.declared.slot.Slot.TheVariants as slot

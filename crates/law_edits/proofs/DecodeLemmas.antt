@@ -3,11 +3,11 @@ use Rattle.std.proofs.Common.{◌≡◌, ◌≢◌, ℕ, ◌≤◌, false, Optio
 use Rattle.pt_tracer.specs.rv_mem.Actions.{AreEqualUnmarked, carried_out}
 use Rattle.pt_tracer.specs.rv_mem.Memory.{Memory}
 use Rattle.pt_tracer.specs.rv_mem.declared.regs.Regs.{Regs}
-use Rattle.pt_args.specs.kr_calls.Arguments.{number}
-use Rattle.pt_args.specs.kr_calls.CallTable.{line}
-use Rattle.pt_args.specs.kr_calls.Decoding.{decoding, decoding_of}
-use Rattle.pt_args.specs.kr_calls.declared.request.Request.{Request}
-use Rattle.pt_args.proofs.kr_calls.DecodingLemmas.{decoded_are_numbered}
+use Rattle.law_walks.specs.kr_calls.Arguments.{number}
+use Rattle.law_walks.specs.kr_calls.CallTable.{line}
+use Rattle.law_walks.specs.kr_calls.Decoding.{decoding, decoding_of}
+use Rattle.law_walks.specs.kr_calls.declared.request.Request.{Request}
+use Rattle.law_walks.proofs.kr_calls.DecodingLemmas.{decoded_are_numbered}
 use Rattle.law_edits.specs.Requests.{AreOfPaths, IsOfSecond, NewText, with_swaps}
 use Rattle.law_edits.specs.Swapped.{AreSwapped, IsNotSecond}
 use Rattle.law_edits.proofs.RegisterLemmas.{path_registers}

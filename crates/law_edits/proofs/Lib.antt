@@ -1,6 +1,7 @@
 pub use Rattle.pt_tracer.proofs.pr_base as pr_base
 pub use Rattle.law_walks.proofs.kr_view as kr_view
 pub use Rattle.law_walks.proofs.kr_files as kr_files
+pub use Rattle.law_walks.proofs.kr_calls as kr_calls
 pub use Rattle.law_walks.proofs.kr_model as kr_model
 pub use Rattle.kr_turns.proofs.kr_perform as kr_perform
 pub use Rattle.pt_tracer.proofs.pt_bind as pt_bind

@@ -4,7 +4,7 @@ use Rattle.std.specs.Prelude.{nat_le}
 use Rattle.std.proofs.lemmas.Bool.{leb-false, leb-true}
 use Rattle.pt_tracer.specs.rv_mem.Actions.{carried_out}
 use Rattle.law_walks.specs.kr_model.AttributeRows.{tell_text}
-use Rattle.pt_args.specs.declared.edit.Edit.TheVariants.{Emulate}
+use Rattle.pt_tracer.specs.pt_args.declared.edit.Edit.TheVariants.{Emulate}
 use Rattle.pt_tracer.specs.Watched.{applied}
 use Rattle.law_edits.specs.Answers.{AreAnsweredAlike, ErrorsAreToldAlike, LinkTextsAreToldAlike}
 use Rattle.law_edits.proofs.AnswerLemmas.{put_alike, refused_alike}

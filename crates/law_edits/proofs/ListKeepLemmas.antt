@@ -8,8 +8,8 @@ use Rattle.pt_tracer.specs.rv_mem.Actions.{Action, CarriedOut, Done, ReadBytes, 
 use Rattle.pt_tracer.specs.rv_mem.Memory.{Memory, after_read}
 use Rattle.pt_tracer.specs.rv_mem.Pages.{bytes_from}
 use Rattle.pt_tracer.specs.rv_mem.declared.rights.Use.TheVariants.{Read}
-use Rattle.pt_args.specs.kr_calls.Expansion.{bytes_with_ends}
-use Rattle.pt_args.specs.kr_calls.Texts.{read_text}
+use Rattle.law_walks.specs.kr_calls.Expansion.{bytes_with_ends}
+use Rattle.law_walks.specs.kr_calls.Texts.{read_text}
 use Rattle.pt_tracer.specs.kr_exec.Lists.{Trying, address_at, and_then, at_least_one, behind, env_at, if_it_fits, list_at, lists_at, most_bytes, most_texts, next_address, text_at, text_within, texts_from, unless_ended}
 use Rattle.pt_tracer.specs.kr_exec.declared.lists.Lists.{Lists}
 use Rattle.pt_tracer.proofs.kr_exec.ListLemmas.{and_then_is, on_reply}

@@ -5,8 +5,8 @@ use Rattle.pt_tracer.specs.pr_base.declared.errno.Errno.TheVariants.{ENOSYS}
 use Rattle.pt_tracer.specs.rv_mem.Actions.{carried_out}
 use Rattle.pt_tracer.specs.rv_mem.Memory.{Memory}
 use Rattle.pt_tracer.specs.rv_mem.declared.regs.Regs.{Regs}
-use Rattle.pt_args.specs.kr_calls.Arguments.{number}
-use Rattle.pt_args.specs.kr_calls.Decoding.{decoding, decoding_of}
+use Rattle.law_walks.specs.kr_calls.Arguments.{number}
+use Rattle.law_walks.specs.kr_calls.Decoding.{decoding, decoding_of}
 use Rattle.law_edits.specs.NoCalls.{NoCallsAreDecoded, without_call}
 use Rattle.law_edits.proofs.ShelfLemmas.{has_number}
 

@@ -1,11 +1,11 @@
 -- The numbers of requests with paths.
 use Rattle.std.proofs.Common.{◌≡◌, ℕ, Bool, true, false, List, [], ◌∷◌, Some, refl, subst, ◌∙◌}
-use Rattle.pt_args.specs.kr_calls.CallTable.{line, paths_of}
-use Rattle.pt_args.specs.kr_calls.PathTable.{PathUse, path_from}
-use Rattle.pt_args.specs.kr_calls.declared.request.Request.{Request}
-use Rattle.pt_args.specs.kr_calls.declared.request.Request.TheVariants as call
+use Rattle.law_walks.specs.kr_calls.CallTable.{line, paths_of}
+use Rattle.law_walks.specs.kr_calls.PathTable.{PathUse, path_from}
+use Rattle.law_walks.specs.kr_calls.declared.request.Request.{Request}
+use Rattle.law_walks.specs.kr_calls.declared.request.Request.TheVariants as call
 use Rattle.kr_turns.specs.kr_calm.Shelf.{has_path}
-use Rattle.pt_args.proofs.kr_calls.DecodingLemmas.{decoded_are_numbered}
+use Rattle.law_walks.proofs.kr_calls.DecodingLemmas.{decoded_are_numbered}
 use Rattle.law_edits.specs.CallShelves.{PathsHaveNumbers}
 
 abbrev has_any : List PathUse → Bool

@@ -1,9 +1,9 @@
 -- A request with other texts is carried out alike.
 use Rattle.std.proofs.Common.{◌≡◌, ◌≢◌, ℕ, List, [], ◌∷◌, Option, Some, None, refl, sym, ap, ◌∙◌}
 use Rattle.std.specs.Option.{option_map}
-use Rattle.pt_args.specs.kr_calls.PathTable.{path_at}
-use Rattle.pt_args.specs.kr_calls.declared.request.Request.{Request}
-use Rattle.pt_args.specs.kr_calls.declared.request.Request.TheVariants as call
+use Rattle.law_walks.specs.kr_calls.PathTable.{path_at}
+use Rattle.law_walks.specs.kr_calls.declared.request.Request.{Request}
+use Rattle.law_walks.specs.kr_calls.declared.request.Request.TheVariants as call
 use Rattle.law_walks.specs.kr_model.Known.{Known}
 use Rattle.law_walks.specs.kr_model.Operation.{by_path, operation}
 use Rattle.law_walks.specs.kr_model.Reply.{Replying}

@@ -13,8 +13,8 @@ use Rattle.pt_tracer.specs.rv_mem.declared.rights.Use.{Use}
 use Rattle.pt_tracer.specs.rv_mem.declared.rights.Use.TheVariants.{Read}
 use Rattle.pt_tracer.proofs.rv_mem.ActionLemmas.{reads_alike}
 use Rattle.pt_tracer.proofs.rv_mem.SpaceLemmas.{IsPlaced-written}
-use Rattle.pt_args.specs.kr_calls.Expansion.{bytes_with_ends}
-use Rattle.pt_args.specs.kr_calls.Texts.{read_text}
+use Rattle.law_walks.specs.kr_calls.Expansion.{bytes_with_ends}
+use Rattle.law_walks.specs.kr_calls.Texts.{read_text}
 use Rattle.pt_tracer.specs.kr_exec.Lists.{Trying, address_at, and_then, at_least_one, behind, if_it_fits, most_bytes, most_texts, next_address}
 use Rattle.pt_tracer.specs.kr_exec.Lists as kernel
 use Rattle.pt_tracer.specs.kr_exec.declared.lists.Lists.{Lists}

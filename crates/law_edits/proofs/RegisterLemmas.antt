@@ -4,10 +4,10 @@ use Rattle.std.specs.Prelude.{◌==◌, nat_le}
 use Rattle.std.specs.List.{list_all}
 use Rattle.std.specs.Option.{option_map}
 use Rattle.std.proofs.lemmas.Bool.Decides.{nat_tests}
-use Rattle.pt_args.specs.kr_calls.CallTable.{line, paths_of}
-use Rattle.pt_args.specs.kr_calls.PathTable.{PathUse, path_from}
-use Rattle.pt_args.specs.kr_calls.declared.request.Request.{Request}
-use Rattle.pt_args.specs.kr_calls.declared.request.Request.TheVariants as call
+use Rattle.law_walks.specs.kr_calls.CallTable.{line, paths_of}
+use Rattle.law_walks.specs.kr_calls.PathTable.{PathUse, path_from}
+use Rattle.law_walks.specs.kr_calls.declared.request.Request.{Request}
+use Rattle.law_walks.specs.kr_calls.declared.request.Request.TheVariants as call
 use Rattle.law_edits.specs.Requests.{path_register}
 
 abbrev pub IsArgument : ℕ → Type 0

@@ -5,18 +5,18 @@ use Rattle.std.specs.Option.{option_map}
 use Rattle.std.proofs.lemmas.Bool.{ltb-true}
 use Rattle.pt_tracer.specs.pr_base.declared.errno.Errno.{Errno}
 use Rattle.pt_tracer.specs.pt_bind.Binding.{names_of}
-use Rattle.pt_args.specs.pt_canon.Canon.{canon_of}
-use Rattle.pt_args.specs.pt_canon.TextWalk.{TextSurroundings}
-use Rattle.pt_args.specs.pt_canon.declared.canon.Canon.{Canon}
-use Rattle.pt_args.specs.kr_calls.PathTable.{PathUse, path_at}
-use Rattle.pt_args.specs.kr_calls.declared.request.Request.{Request}
-use Rattle.pt_args.specs.Bases.{base_of}
-use Rattle.pt_args.specs.Edits.{edit_by, edit_of}
-use Rattle.pt_args.specs.Plans.{first_walked, plan_behind, plan_both, plan_first, plan_from, plan_one, second_walked}
-use Rattle.pt_args.specs.Points.{both_are_busy, one_is_busy}
-use Rattle.pt_args.specs.Purposes.{opens, swap_for}
-use Rattle.pt_args.specs.Walks.{and_then, reached_at, walked, walked_along, walked_from}
-use Rattle.pt_args.specs.declared.reached.Reached.{Reached}
+use Rattle.law_walks.specs.pt_canon.Canon.{canon_of}
+use Rattle.law_walks.specs.pt_canon.TextWalk.{TextSurroundings}
+use Rattle.law_walks.specs.pt_canon.declared.canon.Canon.{Canon}
+use Rattle.law_walks.specs.kr_calls.PathTable.{PathUse, path_at}
+use Rattle.law_walks.specs.kr_calls.declared.request.Request.{Request}
+use Rattle.pt_tracer.specs.pt_args.Bases.{base_of}
+use Rattle.pt_tracer.specs.pt_args.Edits.{edit_by, edit_of}
+use Rattle.pt_tracer.specs.pt_args.Plans.{first_walked, plan_behind, plan_both, plan_first, plan_from, plan_one, second_walked}
+use Rattle.pt_tracer.specs.pt_args.Points.{both_are_busy, one_is_busy}
+use Rattle.pt_tracer.specs.pt_args.Purposes.{opens, swap_for}
+use Rattle.pt_tracer.specs.pt_args.Walks.{and_then, reached_at, walked, walked_along, walked_from}
+use Rattle.pt_tracer.specs.pt_args.declared.reached.Reached.{Reached}
 use Rattle.law_edits.specs.Rewriting.{WalksAreSwapped, new_text}
 use Rattle.law_edits.specs.Shelves.{swap_edit}
 

@@ -9,12 +9,12 @@ use Rattle.pt_tracer.specs.pr_base.declared.errno.Errno.{Errno}
 use Rattle.pt_tracer.specs.rv_mem.Actions.{Action, AreEqualUnmarked, carried_out}
 use Rattle.pt_tracer.specs.rv_mem.Memory.{Memory, text_of}
 use Rattle.pt_tracer.specs.rv_mem.declared.regs.Regs.{Regs}
-use Rattle.pt_args.specs.kr_calls.Arguments.{has_other, long, word}
-use Rattle.pt_args.specs.kr_calls.Decoding.{Decoded, NumberedRow, Row, Gives, Tests, ReadsOne, ReadsTwo, accepts, action_of, by_rows, decoding_of, link_flags, decoded_linkat, linkat_with, decoded_renameat2, renameat2_with, rows, decoded_symlinkat, symlinkat_with, text_limit, unless, with_texts}
-use Rattle.pt_args.specs.kr_calls.CallTable.{line}
-use Rattle.pt_args.proofs.kr_calls.DecodingLemmas.{decodings_go_by_rows, request_of}
-use Rattle.pt_args.specs.kr_calls.declared.request.Request.{Request}
-use Rattle.pt_args.specs.kr_calls.declared.request.Request.TheVariants as call
+use Rattle.law_walks.specs.kr_calls.Arguments.{has_other, long, word}
+use Rattle.law_walks.specs.kr_calls.Decoding.{Decoded, NumberedRow, Row, Gives, Tests, ReadsOne, ReadsTwo, accepts, action_of, by_rows, decoding_of, link_flags, decoded_linkat, linkat_with, decoded_renameat2, renameat2_with, rows, decoded_symlinkat, symlinkat_with, text_limit, unless, with_texts}
+use Rattle.law_walks.specs.kr_calls.CallTable.{line}
+use Rattle.law_walks.proofs.kr_calls.DecodingLemmas.{decodings_go_by_rows, request_of}
+use Rattle.law_walks.specs.kr_calls.declared.request.Request.{Request}
+use Rattle.law_walks.specs.kr_calls.declared.request.Request.TheVariants as call
 use Rattle.law_edits.specs.Requests.{AreOfPaths, IsOfSecond, NewText, path_register, with_first, with_second, with_swaps}
 use Rattle.law_edits.specs.Swapped.{AreSwapped, IsNotSecond, IsPut, IsSecondPut}
 use Rattle.law_edits.proofs.TextLemmas.{AreRead, accepted_is, text_alike, text_on, text_read_of, texts_on, texts_read_of}

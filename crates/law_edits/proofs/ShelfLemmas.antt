@@ -16,11 +16,11 @@ use Rattle.pt_tracer.proofs.rv_mem.ActionLemmas.{reads_alike}
 use Rattle.pt_tracer.proofs.rv_mem.AddressLemmas.{byte_at-written_other}
 use Rattle.pt_tracer.proofs.rv_mem.LayoutLemmas.{layouts_follow}
 use Rattle.pt_tracer.proofs.rv_mem.SpaceLemmas.{IsWhole-written}
-use Rattle.pt_args.specs.kr_calls.Arguments.{number}
-use Rattle.pt_args.specs.kr_calls.Decoding.{decoding, decoding_of, text_limit}
-use Rattle.pt_args.specs.kr_calls.declared.request.Request.{Request}
-use Rattle.pt_args.specs.Laws.{AreReadBack, IsPathText, ShelvesHoldTheirItems, StandBetween, TextsAreReadBack, poked, room_of}
-use Rattle.pt_args.specs.Shelving.{address_below}
+use Rattle.law_walks.specs.kr_calls.Arguments.{number}
+use Rattle.law_walks.specs.kr_calls.Decoding.{decoding, decoding_of, text_limit}
+use Rattle.law_walks.specs.kr_calls.declared.request.Request.{Request}
+use Rattle.pt_tracer.specs.pt_args.Laws.{AreReadBack, IsPathText, ShelvesHoldTheirItems, StandBetween, TextsAreReadBack, poked, room_of}
+use Rattle.pt_tracer.specs.pt_args.Shelving.{address_below}
 use Rattle.law_edits.specs.Requests.{AreOfPaths, NewText, path_register, with_swaps}
 use Rattle.law_edits.specs.Shelves.{CanBePath, CanSecondBePath, HasMarkedShelf, bottom_of, item_of, items_at, memory_behind, new_texts, registers_behind}
 use Rattle.law_edits.specs.Swapped.{AreMarkedFrom, AreSwapped}

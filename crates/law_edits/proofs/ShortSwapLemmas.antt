@@ -17,12 +17,12 @@ use Rattle.pt_tracer.specs.pr_base.declared.path.WalkMode.{WalkMode}
 use Rattle.pt_tracer.specs.pr_base.declared.path.WalkMode.TheVariants as modes
 use Rattle.pt_tracer.proofs.pr_base.EndLemmas.{jump_is_shown}
 use Rattle.pt_tracer.proofs.pr_base.PathLemmas.{names_are_parts}
-use Rattle.pt_args.specs.Purposes.{entry_swap, made_swap, named_path, own_path, purpose_of, swap_for}
+use Rattle.pt_tracer.specs.pt_args.Purposes.{entry_swap, made_swap, named_path, own_path, purpose_of, swap_for}
 use Rattle.pt_tracer.specs.pt_bind.Binding.{host_of, names_of}
 use Rattle.pt_tracer.proofs.pt_bind.ByteLemmas.{names_written}
-use Rattle.pt_args.specs.pt_canon.Canon.{canon_at, canon_result, ending_of, entry_text, found_entry}
-use Rattle.pt_args.specs.pt_canon.TextWalk.{looking_texts}
-use Rattle.pt_args.specs.pt_canon.declared.canon.Canon.{Canon}
+use Rattle.law_walks.specs.pt_canon.Canon.{canon_at, canon_result, ending_of, entry_text, found_entry}
+use Rattle.law_walks.specs.pt_canon.TextWalk.{looking_texts}
+use Rattle.law_walks.specs.pt_canon.declared.canon.Canon.{Canon}
 use Rattle.law_walks.proofs.kr_tree.NameLemmas.{some_is}
 use Rattle.law_walks.specs.kr_tree.declared.place.Place.{Place}
 use Rattle.law_walks.specs.kr_view.declared.target.Reach.{Reach}

@@ -9,7 +9,7 @@ use Rattle.law_walks.specs.kr_model.State.{Image}
 use Rattle.pt_tracer.specs.pt_faker.Stopping.{after_poke, memory_at, with_register}
 use Rattle.kr_turns.specs.kr_stops.Stopped.{IsThere, Stopped, edited, image_at}
 use Rattle.kr_turns.proofs.kr_stops.EditLemmas.{computed-lives, edited-twice, image-edited}
-use Rattle.pt_args.specs.Laws.{StandBetween, poked as pages_poked}
+use Rattle.pt_tracer.specs.pt_args.Laws.{StandBetween, poked as pages_poked}
 use Rattle.pt_tracer.specs.Poking.{may_poke, poked}
 use Rattle.pt_tracer.specs.Registers.{is_register, with_arguments}
 use Rattle.law_edits.specs.Shelves.{with_words}

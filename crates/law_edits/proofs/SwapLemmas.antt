@@ -8,13 +8,13 @@ use Rattle.pt_tracer.specs.rv_mem.Memory.{Memory}
 use Rattle.pt_tracer.specs.rv_mem.Pages.{allows_all}
 use Rattle.pt_tracer.specs.rv_mem.declared.regs.Regs.{Regs}
 use Rattle.pt_tracer.specs.rv_mem.declared.rights.Use.TheVariants.{Read, Write}
-use Rattle.pt_args.specs.kr_calls.Decoding.{decoding}
-use Rattle.pt_args.specs.kr_calls.declared.request.Request.{Request}
+use Rattle.law_walks.specs.kr_calls.Decoding.{decoding}
+use Rattle.law_walks.specs.kr_calls.declared.request.Request.{Request}
 use Rattle.law_walks.specs.kr_model.State.{Image}
 use Rattle.kr_turns.specs.kr_stops.Stopped.{Stopped, edited, image_at}
 use Rattle.pt_tracer.specs.pt_faker.Stopping.{after_request, decoded_at, memory_at}
-use Rattle.pt_args.proofs.kr_calls.DecodingLemmas.{decodings_leave_pages}
-use Rattle.pt_args.specs.Laws.{ShelvesHoldTheirItems, TextsAreReadBack}
+use Rattle.law_walks.proofs.kr_calls.DecodingLemmas.{decodings_leave_pages}
+use Rattle.pt_tracer.specs.pt_args.Laws.{ShelvesHoldTheirItems, TextsAreReadBack}
 use Rattle.pt_tracer.specs.Planning.{stack_at}
 use Rattle.pt_tracer.specs.Poking.{may_poke, poked}
 use Rattle.pt_tracer.specs.Registers.{is_register, with_arguments}

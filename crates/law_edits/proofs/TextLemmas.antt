@@ -8,10 +8,10 @@ use Rattle.pt_tracer.specs.rv_mem.Pages.{any_marked}
 use Rattle.pt_tracer.specs.rv_mem.declared.fault.TextFault.{TextFault}
 use Rattle.pt_tracer.specs.rv_mem.declared.fault.TextFault.TheVariants as text
 use Rattle.pt_tracer.proofs.rv_mem.ActionLemmas.{reads_alike}
-use Rattle.pt_args.specs.kr_calls.Decoding.{Decoded, accepts, named, refuses, text_limit, with_text, with_texts}
-use Rattle.pt_args.specs.kr_calls.Texts.{read_text}
-use Rattle.pt_args.specs.kr_calls.declared.request.Request.{Request}
-use Rattle.pt_args.proofs.kr_calls.TextLemmas.{chosen, read_text_is}
+use Rattle.law_walks.specs.kr_calls.Decoding.{Decoded, accepts, named, refuses, text_limit, with_text, with_texts}
+use Rattle.law_walks.specs.kr_calls.Texts.{read_text}
+use Rattle.law_walks.specs.kr_calls.declared.request.Request.{Request}
+use Rattle.law_walks.proofs.kr_calls.TextLemmas.{chosen, read_text_is}
 
 -- the memory behind the reading of a text
 abbrev pub after_text : Memory → ℕ → Memory

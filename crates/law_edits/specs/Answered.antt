@@ -2,11 +2,11 @@
 use Rattle.std.specs.Prelude.{◌≡◌, List, ℤ, Some, Ok, Err}
 use Rattle.pt_tracer.specs.pr_base.declared.errno.Errno.TheVariants.{ENOSYS}
 use Rattle.pt_tracer.specs.rv_mem.Memory.{Memory}
-use Rattle.pt_args.specs.kr_calls.declared.request.Request.{Request}
+use Rattle.law_walks.specs.kr_calls.declared.request.Request.{Request}
 use Rattle.law_walks.specs.kr_view.View.{Row}
 use Rattle.kr_turns.specs.PlainCall.{after_decoding, plain_call, refusal_told}
 use Rattle.kr_turns.specs.kr_stops.Stopped.{IsThere, Stopped, image_at}
-use Rattle.pt_args.specs.declared.edit.Edit.{Edit}
+use Rattle.pt_tracer.specs.pt_args.declared.edit.Edit.{Edit}
 use Rattle.pt_tracer.specs.pt_faker.Stopping.{after_request, decoded_at, memory_at, with_memory}
 use Rattle.pt_tracer.specs.Watched.{applied}
 use Rattle.law_edits.specs.NoCalls.{without_call}

@@ -7,7 +7,7 @@ use Rattle.pt_tracer.specs.rv_mem.Memory.{Memory}
 use Rattle.law_walks.specs.kr_view.Component.{is_directory_at}
 use Rattle.law_walks.specs.kr_view.Living.{Each, HasSmallNumbers}
 use Rattle.law_walks.specs.kr_view.View.{Row}
-use Rattle.pt_args.specs.kr_calls.declared.request.Request.TheVariants as call
+use Rattle.law_walks.specs.kr_calls.declared.request.Request.TheVariants as call
 use Rattle.law_walks.specs.kr_model.Applied.{cwd_of}
 use Rattle.law_walks.specs.kr_model.Known.{known}
 use Rattle.law_walks.specs.kr_model.Operation.{operation}
@@ -18,10 +18,10 @@ use Rattle.law_walks.specs.kr_model.State.{Image, Process, State, image_layout, 
 use Rattle.law_walks.specs.kr_model.Walks.{seen}
 use Rattle.law_walks.specs.kr_model.declared.outcome.Outcome.TheVariants.{Answer}
 use Rattle.kr_turns.specs.kr_stops.Stopped.{IsThere, Stopped}
-use Rattle.pt_args.specs.Bases.{working_text}
+use Rattle.pt_tracer.specs.pt_args.Bases.{working_text}
 use Rattle.pt_tracer.specs.pt_bind.Tags.{TagTable}
-use Rattle.pt_args.specs.pt_canon.TextWalk.{TextSurroundings}
-use Rattle.pt_args.specs.declared.edit.Edit.TheVariants.{Cancel}
+use Rattle.law_walks.specs.pt_canon.TextWalk.{TextSurroundings}
+use Rattle.pt_tracer.specs.pt_args.declared.edit.Edit.TheVariants.{Cancel}
 use Rattle.pt_tracer.specs.pt_results.Answers.{cwd_answer, lead_answer}
 use Rattle.pt_tracer.specs.pt_faker.Stopping.{memory_at}
 use Rattle.pt_tracer.specs.Watched.{Applied, applied}

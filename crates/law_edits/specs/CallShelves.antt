@@ -5,10 +5,10 @@ use Rattle.pt_tracer.specs.rv_mem.Memory.{Memory}
 use Rattle.pt_tracer.specs.rv_mem.Pages.{Pages}
 use Rattle.pt_tracer.specs.rv_mem.declared.regs.Regs.{Regs}
 use Rattle.law_walks.specs.kr_view.View.{Row}
-use Rattle.pt_args.specs.kr_calls.Arguments.{number}
-use Rattle.pt_args.specs.kr_calls.Decoding.{decoding}
-use Rattle.pt_args.specs.kr_calls.PathTable.{PathUse, path_at}
-use Rattle.pt_args.specs.kr_calls.declared.request.Request.{Request}
+use Rattle.law_walks.specs.kr_calls.Arguments.{number}
+use Rattle.law_walks.specs.kr_calls.Decoding.{decoding}
+use Rattle.law_walks.specs.kr_calls.PathTable.{PathUse, path_at}
+use Rattle.law_walks.specs.kr_calls.declared.request.Request.{Request}
 use Rattle.law_walks.specs.kr_model.State.{Image, Process, State, process}
 use Rattle.kr_turns.specs.kr_calm.Shelf.{has_path, is_usable, stack_pointer}
 use Rattle.kr_turns.specs.Breaking.{plain_rule}

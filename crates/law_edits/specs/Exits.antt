@@ -3,7 +3,7 @@ use Rattle.std.specs.FinMap as map
 use Rattle.std.specs.Prelude.{◌≡◌, ℕ, ℤ, false, List, Option, None, Some, Ok, slice_set}
 use Rattle.std.specs.Int.{cast_signed, w64}
 use Rattle.pt_tracer.specs.rv_mem.Memory.{Memory}
-use Rattle.pt_args.specs.kr_calls.declared.request.Request.{Request}
+use Rattle.law_walks.specs.kr_calls.declared.request.Request.{Request}
 use Rattle.kr_turns.specs.kr_stops.Stopped.{IsThere, Stopped, edited, image_at}
 use Rattle.pt_tracer.specs.pt_results.Notes.{noted, tags_after}
 use Rattle.pt_tracer.specs.pt_faker.Faking.{word_of}

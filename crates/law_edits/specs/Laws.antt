@@ -3,8 +3,8 @@ use Rattle.std.specs.Prelude.{◌≡◌, ℕ, Option, Ok}
 use Rattle.pt_tracer.specs.rv_mem.Actions.{AreEqualUnmarked, carried_out}
 use Rattle.pt_tracer.specs.rv_mem.Memory.{Memory}
 use Rattle.pt_tracer.specs.rv_mem.declared.regs.Regs.{Regs}
-use Rattle.pt_args.specs.kr_calls.Decoding.{decoding}
-use Rattle.pt_args.specs.kr_calls.declared.request.Request.{Request}
+use Rattle.law_walks.specs.kr_calls.Decoding.{decoding}
+use Rattle.law_walks.specs.kr_calls.declared.request.Request.{Request}
 use Rattle.law_edits.specs.Requests.{AreOfPaths, NewText, with_swaps}
 use Rattle.law_edits.specs.Shelves.{CanBePath, CanSecondBePath, HasMarkedShelf, memory_behind, registers_behind}
 use Rattle.law_edits.specs.Swapped.{AreSwapped, IsDecodedCalmly}

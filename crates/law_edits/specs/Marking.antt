@@ -3,7 +3,7 @@ use Rattle.std.specs.Prelude.{◌≡◌, true}
 use Rattle.pt_tracer.specs.rv_mem.Memory.{Memory}
 use Rattle.pt_tracer.specs.rv_mem.Pages.{IsWhole}
 use Rattle.pt_tracer.specs.rv_mem.declared.regs.Regs.{Regs}
-use Rattle.pt_args.specs.kr_calls.Arguments.{number}
+use Rattle.law_walks.specs.kr_calls.Arguments.{number}
 use Rattle.kr_turns.specs.kr_calm.Shelf.{has_path, is_usable, shelved_by, stack_pointer}
 use Rattle.law_edits.specs.Shelves.{HasMarkedShelf}
 

@@ -4,8 +4,8 @@ use Rattle.pt_tracer.specs.pr_base.declared.errno.Errno.TheVariants.{ENOSYS}
 use Rattle.pt_tracer.specs.rv_mem.Actions.{carried_out}
 use Rattle.pt_tracer.specs.rv_mem.Memory.{Memory}
 use Rattle.pt_tracer.specs.rv_mem.declared.regs.Regs.{Regs}
-use Rattle.pt_args.specs.kr_calls.Decoding.{decoding}
-use Rattle.pt_args.specs.kr_calls.declared.request.Request.{Request}
+use Rattle.law_walks.specs.kr_calls.Decoding.{decoding}
+use Rattle.law_walks.specs.kr_calls.declared.request.Request.{Request}
 
 -- the largest word, in a7
 abbrev pub without_call : Regs → Regs

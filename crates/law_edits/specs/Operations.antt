@@ -1,8 +1,8 @@
 -- What a request with other texts has in common with the one that was made.
 use Rattle.std.specs.Prelude.{◌≡◌, ◌≢◌, ℕ, List, [], Option, Some, None}
 use Rattle.std.specs.Option.{option_map}
-use Rattle.pt_args.specs.kr_calls.PathTable.{PathUse, path_at}
-use Rattle.pt_args.specs.kr_calls.declared.request.Request.{Request}
+use Rattle.law_walks.specs.kr_calls.PathTable.{PathUse, path_at}
+use Rattle.law_walks.specs.kr_calls.declared.request.Request.{Request}
 use Rattle.law_walks.specs.kr_model.Known.{Known}
 use Rattle.law_walks.specs.kr_model.Operation.{IsNoExec, operation}
 use Rattle.law_walks.specs.kr_model.Seen.{Seen}

@@ -4,7 +4,7 @@ use Rattle.pt_tracer.specs.pr_base.declared.errno.Errno.{Errno}
 use Rattle.pt_tracer.specs.rv_mem.Actions.{AreEqualUnmarked, CarriedOut, carried_out}
 use Rattle.pt_tracer.specs.rv_mem.Memory.{Memory}
 use Rattle.pt_tracer.specs.rv_mem.Pages.{IsPlaced}
-use Rattle.pt_args.specs.kr_calls.Expansion.{bytes_with_ends}
+use Rattle.law_walks.specs.kr_calls.Expansion.{bytes_with_ends}
 use Rattle.pt_tracer.specs.kr_exec.Lists as kernel
 use Rattle.pt_tracer.specs.kr_exec.declared.lists.Lists.{Lists}
 use Rattle.pt_tracer.specs.pt_faker.Reading as tracer

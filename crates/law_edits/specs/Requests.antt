@@ -1,9 +1,9 @@
 -- Requests whose paths are swapped for other texts: all else of a request is the same.
 use Rattle.std.specs.Prelude.{◌≡◌, ℕ, List, Option, Some, None}
 use Rattle.std.specs.Option.{option_map}
-pub use Rattle.pt_args.specs.kr_calls.CallTable.{with_first, with_second}
-use Rattle.pt_args.specs.kr_calls.PathTable.{path_at}
-use Rattle.pt_args.specs.kr_calls.declared.request.Request.{Request}
+pub use Rattle.law_walks.specs.kr_calls.CallTable.{with_first, with_second}
+use Rattle.law_walks.specs.kr_calls.PathTable.{path_at}
+use Rattle.law_walks.specs.kr_calls.declared.request.Request.{Request}
 
 -- a text in place of a path, and the number of the register that holds the path's address
 pub record NewText : Type 0 where

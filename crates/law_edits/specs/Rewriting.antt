@@ -1,13 +1,13 @@
 -- Which edit comes of the walks of a call's paths, where each of them leads somewhere.
 use Rattle.std.specs.Prelude.{◌≡◌, ℕ, false, true, ◌≤◌, List, Some, None, Ok, length}
-use Rattle.pt_args.specs.pt_canon.TextWalk.{TextSurroundings}
-use Rattle.pt_args.specs.kr_calls.PathTable.{PathUse, path_at}
-use Rattle.pt_args.specs.kr_calls.declared.request.Request.{Request}
-use Rattle.pt_args.specs.Edits.{edit_of, longest_path}
-use Rattle.pt_args.specs.Points.{both_are_busy, one_is_busy}
-use Rattle.pt_args.specs.Purposes.{opens, swap_for}
-use Rattle.pt_args.specs.Walks.{walked}
-use Rattle.pt_args.specs.declared.reached.Reached.{Reached}
+use Rattle.law_walks.specs.pt_canon.TextWalk.{TextSurroundings}
+use Rattle.law_walks.specs.kr_calls.PathTable.{PathUse, path_at}
+use Rattle.law_walks.specs.kr_calls.declared.request.Request.{Request}
+use Rattle.pt_tracer.specs.pt_args.Edits.{edit_of, longest_path}
+use Rattle.pt_tracer.specs.pt_args.Points.{both_are_busy, one_is_busy}
+use Rattle.pt_tracer.specs.pt_args.Purposes.{opens, swap_for}
+use Rattle.pt_tracer.specs.pt_args.Walks.{walked}
+use Rattle.pt_tracer.specs.pt_args.declared.reached.Reached.{Reached}
 use Rattle.law_edits.specs.Requests.{AreOfPaths, NewText}
 use Rattle.law_edits.specs.Shelves.{swap_edit}
 

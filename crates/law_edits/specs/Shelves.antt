@@ -4,10 +4,10 @@ use Rattle.pt_tracer.specs.rv_mem.Memory.{Memory, with_pages}
 use Rattle.pt_tracer.specs.rv_mem.Pages.{Pages, allows}
 use Rattle.pt_tracer.specs.rv_mem.declared.regs.Regs.{Regs}
 use Rattle.pt_tracer.specs.rv_mem.declared.rights.Use.TheVariants.{Read}
-use Rattle.pt_args.specs.Laws.{IsPathText, poked}
-use Rattle.pt_args.specs.Shelving.{address_below, shelf_size, shelved, with_zero}
-use Rattle.pt_args.specs.declared.edit.Edit.{Edit}
-use Rattle.pt_args.specs.declared.edit.Edit.TheVariants.{Swap}
+use Rattle.pt_tracer.specs.pt_args.Laws.{IsPathText, poked}
+use Rattle.pt_tracer.specs.pt_args.Shelving.{address_below, shelf_size, shelved, with_zero}
+use Rattle.pt_tracer.specs.pt_args.declared.edit.Edit.{Edit}
+use Rattle.pt_tracer.specs.pt_args.declared.edit.Edit.TheVariants.{Swap}
 use Rattle.law_edits.specs.Requests.{NewText}
 use Rattle.law_edits.specs.Swapped.{AreMarkedFrom}
 

@@ -7,10 +7,10 @@ use Rattle.pt_tracer.specs.pr_base.declared.path.Last.TheVariants as last
 use Rattle.pt_tracer.specs.pr_base.declared.path.WalkMode.{WalkMode}
 use Rattle.pt_tracer.specs.pr_base.declared.path.WalkMode.TheVariants as modes
 use Rattle.kr_turns.specs.kr_calm.Rules.{longest_name}
-use Rattle.pt_args.specs.Edits.{longest_path}
-use Rattle.pt_args.specs.Purposes.{purpose_of, swap_for}
-use Rattle.pt_args.specs.pt_canon.Canon.{canon_of}
-use Rattle.pt_args.specs.pt_canon.declared.canon.Canon.{Canon}
+use Rattle.pt_tracer.specs.pt_args.Edits.{longest_path}
+use Rattle.pt_tracer.specs.pt_args.Purposes.{purpose_of, swap_for}
+use Rattle.law_walks.specs.pt_canon.Canon.{canon_of}
+use Rattle.law_walks.specs.pt_canon.declared.canon.Canon.{Canon}
 use Rattle.law_walks.specs.kr_tree.declared.place.Place.{Place}
 use Rattle.law_walks.specs.kr_view.declared.target.Reach.{Reach}
 use Rattle.law_walks.specs.kr_view.Reach.{reach_after}

@@ -2,7 +2,7 @@
 use Rattle.std.specs.Prelude.{◌≡◌, true, Option, None, Ok}
 use Rattle.pt_tracer.specs.rv_mem.Actions.{AreEqualUnmarked}
 use Rattle.pt_tracer.specs.rv_mem.Memory.{Memory}
-use Rattle.pt_args.specs.kr_calls.declared.request.Request.{Request}
+use Rattle.law_walks.specs.kr_calls.declared.request.Request.{Request}
 use Rattle.kr_turns.specs.kr_stops.Stopped.{IsThere, Stopped, edited, image_at}
 use Rattle.pt_tracer.specs.pt_faker.Stopping.{after_request, decoded_at, memory_at}
 use Rattle.pt_tracer.specs.Planning.{has_shelf, stack_at}

@@ -5,7 +5,7 @@ use Rattle.pt_tracer.specs.rv_mem.Actions.{AreEqualUnmarked, carried_out}
 use Rattle.pt_tracer.specs.rv_mem.Memory.{Memory, text_of}
 use Rattle.pt_tracer.specs.rv_mem.Pages.{Pages, is_marked}
 use Rattle.pt_tracer.specs.rv_mem.declared.regs.Regs.{Regs}
-use Rattle.pt_args.specs.kr_calls.Decoding.{decoding, text_limit}
+use Rattle.law_walks.specs.kr_calls.Decoding.{decoding, text_limit}
 use Rattle.law_edits.specs.Requests.{NewText}
 
 -- a text that is read at the address in its register, and isn't empty

@@ -5,7 +5,7 @@ ghost use Rattle.law_edits.specs.NoCalls.{NoCallsAreDecoded};
 ghost use Rattle.law_edits.specs.Operations.{OperationsAreSame, PathsAreSwapped};
 ghost use Rattle.law_edits.specs.Rewriting.{WalksAreSwapped};
 
-use pt_args::laws;
+use pt_tracer::below::{shelves_hold_their_items, texts_are_read_back};
 
 /// Where the texts of a call's paths are swapped, its request has the new texts.
 pub fn swapped_texts_are_decoded()
@@ -16,8 +16,8 @@ pub fn swapped_texts_are_decoded()
 pub fn swaps_are_decoded()
     ensures { SwapsAreDecoded }
 {
-    laws::texts_are_read_back();
-    laws::shelves_hold_their_items();
+    texts_are_read_back();
+    shelves_hold_their_items();
 }
 
 /// The paths of a request with other texts have these, and are walked as before.

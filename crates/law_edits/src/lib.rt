@@ -48,6 +48,7 @@
 #![tactic(auto)]
 
 pub mod answers;
+pub mod below;
 pub mod fresh;
 pub mod laws;
 pub mod reading;

@@ -3,14 +3,14 @@ ghost use Rattle.law_edits.specs.Answered.{AnsweredCallsAreNone, PlainCallsAreDe
 ghost use Rattle.law_edits.specs.Exits.{ExitsBehindAnswers, ExitsBehindSwaps};
 ghost use Rattle.law_edits.specs.Stops.{SwappedCallsAreDecoded};
 
-use pt_args::laws;
+use pt_tracer::below::{shelves_hold_their_items, texts_are_read_back};
 
 /// Behind the swap of a call's paths the plain kernel finds its request with the new texts.
 pub fn swapped_calls_are_decoded()
     ensures { SwappedCallsAreDecoded }
 {
-    laws::texts_are_read_back();
-    laws::shelves_hold_their_items();
+    texts_are_read_back();
+    shelves_hold_their_items();
 }
 
 /// What the kernel makes of a stopped process goes by what is decoded of it.

@@ -4,13 +4,13 @@ use Rattle.std.specs.Prelude.{nat_eq}
 use Rattle.law_programs.specs.pr_base.Fields.{little_endian}
 use Rattle.law_programs.specs.pr_base.declared.errno.Errno.{Errno}
 use Rattle.law_programs.specs.pr_base.declared.errno.Errno.TheVariants.{E2BIG, EFAULT}
-use Rattle.pt_args.specs.rv_mem.Actions.{CarriedOut, Done, ReadBytes, allows_uses, carried_out}
-use Rattle.pt_args.specs.rv_mem.Memory.{Memory}
-use Rattle.pt_args.specs.rv_mem.Pages.{IsPlaced, Pages, allows_all}
-use Rattle.pt_args.specs.rv_mem.declared.rights.Use.TheVariants.{Read}
-use Rattle.pt_args.proofs.rv_mem.PagesLemmas.{allows_all-add}
-use Rattle.pt_args.proofs.rv_mem.AccessLemmas.{allows_all-zero}
-use Rattle.pt_args.specs.kr_calls.Expansion.{bytes_with_ends}
+use Rattle.law_programs.specs.rv_mem.Actions.{CarriedOut, Done, ReadBytes, allows_uses, carried_out}
+use Rattle.law_programs.specs.rv_mem.Memory.{Memory}
+use Rattle.law_programs.specs.rv_mem.Pages.{IsPlaced, Pages, allows_all}
+use Rattle.law_programs.specs.rv_mem.declared.rights.Use.TheVariants.{Read}
+use Rattle.law_programs.proofs.rv_mem.PagesLemmas.{allows_all-add}
+use Rattle.law_programs.proofs.rv_mem.AccessLemmas.{allows_all-zero}
+use Rattle.law_stops.specs.kr_calls.Expansion.{bytes_with_ends}
 use Rattle.law_programs.specs.kr_exec.Lists.{Trying, address_at, and_then, at_least_one, behind, env_at, list_at, lists_at, most_bytes, most_texts, next_address, text_within, texts_from}
 use Rattle.law_programs.specs.kr_exec.declared.lists.Lists.{Lists}
 use Rattle.law_programs.proofs.kr_exec.ListLemmas.{and_then_is, at_address, by_address, entry, on_reply}

@@ -1,6 +1,6 @@
 -- A calm execve(2) of a caller of both machines.
 use Rattle.std.proofs.Common.{◌≡◌, ℕ, List, Ok}
-use Rattle.pt_args.specs.kr_calls.declared.request.Request.TheVariants as call
+use Rattle.law_stops.specs.kr_calls.declared.request.Request.TheVariants as call
 use Rattle.law_stops.specs.Scene.{IsCalm, Scene, asked}
 use Rattle.law_stops.specs.Turning.{ComeToCall}
 use Rattle.law_stops.proofs.CallerLemmas.{Callers, callers_of}

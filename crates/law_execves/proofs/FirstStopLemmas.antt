@@ -2,11 +2,11 @@
 use Rattle.std.proofs.Common.{◌≡◌, ℕ, Some, refl, sym, ap, subst, ◌∙◌, arith}
 use Rattle.std.specs.Option.{option_map}
 use Rattle.std.proofs.lemmas.Option.{same_Some}
-use Rattle.pt_args.specs.rv_mem.Actions.{AreEqualUnmarked}
-use Rattle.pt_args.specs.rv_mem.Layout.{layout_of}
-use Rattle.pt_args.specs.rv_mem.Memory.{Memory}
-use Rattle.pt_args.specs.rv_mem.declared.regs.Regs.{Regs}
-use Rattle.pt_args.specs.Bases.{working_text}
+use Rattle.law_programs.specs.rv_mem.Actions.{AreEqualUnmarked}
+use Rattle.law_programs.specs.rv_mem.Layout.{layout_of}
+use Rattle.law_programs.specs.rv_mem.Memory.{Memory}
+use Rattle.law_programs.specs.rv_mem.declared.regs.Regs.{Regs}
+use Rattle.law_stops.specs.pt_args.Bases.{working_text}
 use Rattle.law_stops.specs.kr_view.Living.{Each, HasSmallNumbers}
 use Rattle.law_stops.specs.kr_view.View.{plain}
 use Rattle.law_programs.proofs.law_allowed.DecodedLemmas.{decoding-leaves-pages}

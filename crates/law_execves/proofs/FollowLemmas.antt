@@ -6,18 +6,18 @@ use Rattle.std.proofs.lemmas.Bool.Decides.{nat_tests}
 use Rattle.law_programs.specs.pr_base.declared.errno.Errno.{Errno}
 use Rattle.law_programs.specs.pr_base.declared.errno.Errno.TheVariants.{EACCES, ENAMETOOLONG, ENOENT}
 use Rattle.law_programs.specs.pr_base.declared.path.WalkMode.TheVariants.{Look}
-use Rattle.pt_args.specs.rv_mem.Actions.{AreEqualUnmarked, CarriedOut, Done, carried_out}
-use Rattle.pt_args.specs.rv_mem.Memory.{Memory}
-use Rattle.pt_args.specs.rv_mem.Pages.{IsPlaced, Pages}
-use Rattle.pt_args.specs.rv_mem.declared.regs.Regs.{Regs}
-use Rattle.pt_args.proofs.rv_mem.ActionLemmas.{reads_alike}
-use Rattle.pt_args.specs.Bases.{working_text}
-use Rattle.pt_args.specs.Walks as traced_walks
-use Rattle.pt_args.specs.Laws.{IsPathText, ShelvesHoldTheirItems, TextsAreReadBack, poked}
-use Rattle.pt_args.specs.declared.edit.Edit.{Edit}
-use Rattle.pt_args.specs.declared.edit.Edit.TheVariants.{Cancel, Pass}
-use Rattle.pt_args.specs.pt_canon.TextWalk.{TextSurroundings}
-use Rattle.pt_args.specs.pt_canon.declared.canon.Canon.{Canon}
+use Rattle.law_programs.specs.rv_mem.Actions.{AreEqualUnmarked, CarriedOut, Done, carried_out}
+use Rattle.law_programs.specs.rv_mem.Memory.{Memory}
+use Rattle.law_programs.specs.rv_mem.Pages.{IsPlaced, Pages}
+use Rattle.law_programs.specs.rv_mem.declared.regs.Regs.{Regs}
+use Rattle.law_programs.proofs.rv_mem.ActionLemmas.{reads_alike}
+use Rattle.law_stops.specs.pt_args.Bases.{working_text}
+use Rattle.law_stops.specs.pt_args.Walks as traced_walks
+use Rattle.law_stops.specs.pt_args.Laws.{IsPathText, ShelvesHoldTheirItems, TextsAreReadBack, poked}
+use Rattle.law_stops.specs.pt_args.declared.edit.Edit.{Edit}
+use Rattle.law_stops.specs.pt_args.declared.edit.Edit.TheVariants.{Cancel, Pass}
+use Rattle.law_plans.specs.pt_canon.TextWalk.{TextSurroundings}
+use Rattle.law_plans.specs.pt_canon.declared.canon.Canon.{Canon}
 use Rattle.law_stops.specs.pt_faker.Reading.{addresses_behind}
 use Rattle.law_stops.specs.pt_faker.declared.lists.Handed.{Handed}
 use Rattle.law_stops.specs.pt_script.Expanding.{command_of, ends_of, expanded_at, shown_result}
@@ -32,9 +32,9 @@ use Rattle.law_stops.specs.kr_view.Component.{Surroundings}
 use Rattle.law_stops.specs.kr_view.Reach.{reach_after}
 use Rattle.law_stops.specs.kr_view.Answers.{told}
 use Rattle.law_stops.specs.kr_view.declared.target.Reach.{Reach}
-use Rattle.pt_args.specs.kr_calls.Expansion.{bytes_with_ends, most_scripts}
-use Rattle.pt_args.specs.kr_calls.declared.request.Request.{Request}
-use Rattle.pt_args.specs.kr_calls.declared.request.Request.TheVariants as call
+use Rattle.law_stops.specs.kr_calls.Expansion.{bytes_with_ends, most_scripts}
+use Rattle.law_stops.specs.kr_calls.declared.request.Request.{Request}
+use Rattle.law_stops.specs.kr_calls.declared.request.Request.TheVariants as call
 use Rattle.law_programs.proofs.law_allowed.DecodedLemmas.{decoding-leaves-pages}
 use Rattle.law_programs.proofs.law_allowed.RowLemmas.{StaysLike}
 use Rattle.law_plans.specs.kr_seen.Carrying.{memory_of}

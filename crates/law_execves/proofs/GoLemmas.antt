@@ -3,17 +3,17 @@ use Rattle.std.specs.FinMap as map
 use Rattle.std.proofs.Common.{◌≡◌, ℕ, false, List, Some, None, Result, Ok, Err, refl, sym, ap, subst, ◌∙◌, arith, get_or}
 use Rattle.std.specs.Prelude.{IsSome}
 use Rattle.law_programs.specs.pr_base.declared.errno.Errno.{Errno}
-use Rattle.pt_args.specs.rv_mem.Actions.{AreEqualUnmarked, CarriedOut, carried_out}
-use Rattle.pt_args.specs.rv_mem.Layout.{layout_of}
-use Rattle.pt_args.specs.rv_mem.Memory.{Memory}
-use Rattle.pt_args.specs.rv_mem.declared.regs.Regs.{Regs}
-use Rattle.pt_args.specs.declared.edit.Edit.TheVariants.{Cancel}
+use Rattle.law_programs.specs.rv_mem.Actions.{AreEqualUnmarked, CarriedOut, carried_out}
+use Rattle.law_programs.specs.rv_mem.Layout.{layout_of}
+use Rattle.law_programs.specs.rv_mem.Memory.{Memory}
+use Rattle.law_programs.specs.rv_mem.declared.regs.Regs.{Regs}
+use Rattle.law_stops.specs.pt_args.declared.edit.Edit.TheVariants.{Cancel}
 use Rattle.law_stops.specs.pt_ident.Identity.{refusal}
 use Rattle.law_stops.specs.kr_view.Living.{Each, HasSmallNumbers}
 use Rattle.law_stops.specs.kr_view.View.{Row, plain}
-use Rattle.pt_args.specs.kr_calls.Decoding.{decoding}
-use Rattle.pt_args.specs.kr_calls.declared.request.Request.{Request}
-use Rattle.pt_args.specs.kr_calls.declared.request.Request.TheVariants as call
+use Rattle.law_stops.specs.kr_calls.Decoding.{decoding}
+use Rattle.law_stops.specs.kr_calls.declared.request.Request.{Request}
+use Rattle.law_stops.specs.kr_calls.declared.request.Request.TheVariants as call
 use Rattle.law_programs.proofs.law_allowed.DecodedLemmas.{decoded-are-givable, decoding-leaves-pages}
 use Rattle.law_programs.proofs.law_allowed.RowLemmas.{StaysLike}
 use Rattle.law_plans.specs.kr_seen.Carrying.{memory_of}

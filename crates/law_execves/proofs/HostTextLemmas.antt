@@ -7,11 +7,11 @@ use Rattle.law_programs.specs.pr_base.Texts.{Text}
 use Rattle.law_programs.proofs.pr_base.PathLemmas.{text_absolute}
 use Rattle.law_programs.specs.pr_base.declared.errno.Errno.{Errno}
 use Rattle.law_programs.specs.pr_base.declared.path.WalkMode.TheVariants.{Look}
-use Rattle.pt_args.specs.rv_mem.Memory.{Memory}
-use Rattle.pt_args.specs.Walks as traced_walks
-use Rattle.pt_args.specs.pt_bind.Tags.{TagTable}
-use Rattle.pt_args.specs.pt_canon.TextWalk.{TextSurroundings}
-use Rattle.pt_args.specs.pt_canon.declared.canon.Canon.{Canon}
+use Rattle.law_programs.specs.rv_mem.Memory.{Memory}
+use Rattle.law_stops.specs.pt_args.Walks as traced_walks
+use Rattle.law_stops.specs.pt_bind.Tags.{TagTable}
+use Rattle.law_plans.specs.pt_canon.TextWalk.{TextSurroundings}
+use Rattle.law_plans.specs.pt_canon.declared.canon.Canon.{Canon}
 use Rattle.law_stops.specs.pt_script.Expanding.{command_of, ends_of, expanded_from, shown_result}
 use Rattle.law_stops.specs.pt_script.Programs as tracer
 use Rattle.law_stops.specs.pt_script.declared.expansion.Expanded.{Expanded}
@@ -27,8 +27,8 @@ use Rattle.law_stops.specs.kr_view.Walk.{PlaceTarget}
 use Rattle.law_stops.specs.kr_view.declared.target.Reach.{Reach}
 use Rattle.law_stops.specs.kr_view.declared.target.Target.{Target}
 use Rattle.law_stops.proofs.kr_view.HostReachLemmas.{reached_names}
-use Rattle.pt_args.specs.kr_calls.Expansion.{bytes_with_ends, expanded, most_scripts}
-use Rattle.pt_args.specs.kr_calls.Expansion.{Expanded as Ended}
+use Rattle.law_stops.specs.kr_calls.Expansion.{bytes_with_ends, expanded, most_scripts}
+use Rattle.law_stops.specs.kr_calls.Expansion.{Expanded as Ended}
 use Rattle.law_programs.specs.law_allowed.Texts.{IsText}
 use Rattle.law_programs.specs.kr_exec.Finding.{program_at, program_walk}
 use Rattle.law_programs.specs.kr_exec.Interpreters.{interpreters, walks_reach}

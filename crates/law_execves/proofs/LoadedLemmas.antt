@@ -1,14 +1,14 @@
 -- Execve(2) that both kernels carry out: what is left of both machines.
 use Rattle.std.proofs.Common.{◌≡◌, ℕ, suc, false, true, List, None, Ok, get_or, refl, sym, ap, subst, ◌∙◌, arith}
 use Rattle.std.specs.Prelude.{IsSome, ◌==◌}
-use Rattle.pt_args.specs.rv_mem.Actions.{carried_out}
-use Rattle.pt_args.specs.rv_mem.Memory.{Memory}
-use Rattle.pt_args.specs.rv_mem.declared.regs.Regs.{Regs}
-use Rattle.pt_args.specs.pt_bind.Tags.{TagTable, with_tag}
-use Rattle.pt_args.specs.pt_bind.declared.slot.Slot.TheVariants.{Exe}
+use Rattle.law_programs.specs.rv_mem.Actions.{carried_out}
+use Rattle.law_programs.specs.rv_mem.Memory.{Memory}
+use Rattle.law_programs.specs.rv_mem.declared.regs.Regs.{Regs}
+use Rattle.law_stops.specs.pt_bind.Tags.{TagTable, with_tag}
+use Rattle.law_stops.specs.pt_bind.declared.slot.Slot.TheVariants.{Exe}
 use Rattle.law_stops.specs.kr_inode.declared.user.User.{User}
 use Rattle.law_stops.specs.kr_view.View.{Row, plain}
-use Rattle.pt_args.specs.kr_calls.declared.request.Request.TheVariants as call
+use Rattle.law_stops.specs.kr_calls.declared.request.Request.TheVariants as call
 use Rattle.law_plans.specs.kr_seen.Carrying.{memory_of, with_memory, with_memory_of}
 use Rattle.law_programs.specs.kr_execve.Execution.{Program, changes_of, execution, mount_of}
 use Rattle.law_programs.specs.law_allowed.Lasting.{AreModest}

@@ -1,18 +1,18 @@
 -- The path of execve(2), as decoding gives it, is a text that a path can be.
 use Rattle.std.proofs.Common.{◌≡◌, ◌<◌, ℕ, zero, suc, ◌+◌, Bool, true, false, cond, nat_eq, List, [], ◌∷◌, length, Result, Ok, Err, refl, sym, ap, subst, ◌∙◌, arith}
-use Rattle.pt_args.specs.rv_mem.Actions.{carried_out}
-use Rattle.pt_args.specs.rv_mem.Memory.{Memory, text_after, text_of}
-use Rattle.pt_args.specs.rv_mem.Pages.{HoldsBytes, Pages, allows, byte_at}
-use Rattle.pt_args.specs.rv_mem.declared.fault.TextFault.{TextFault}
-use Rattle.pt_args.specs.rv_mem.declared.fault.TextFault.TheVariants.{BadAddress}
-use Rattle.pt_args.specs.rv_mem.declared.regs.Regs.{Regs}
-use Rattle.pt_args.specs.rv_mem.declared.rights.Use.TheVariants.{Read}
-use Rattle.pt_args.specs.Laws.{IsPathText}
-use Rattle.pt_args.specs.kr_calls.Arguments.{long}
-use Rattle.pt_args.specs.kr_calls.Decoding.{accepts, decoding, decoding_of, execve_with, text_limit}
-use Rattle.pt_args.specs.kr_calls.declared.request.Request.{Request}
-use Rattle.pt_args.specs.kr_calls.declared.request.Request.TheVariants as call
-use Rattle.pt_args.proofs.kr_calls.DecodingLemmas.{decoded_are_numbered}
+use Rattle.law_programs.specs.rv_mem.Actions.{carried_out}
+use Rattle.law_programs.specs.rv_mem.Memory.{Memory, text_after, text_of}
+use Rattle.law_programs.specs.rv_mem.Pages.{HoldsBytes, Pages, allows, byte_at}
+use Rattle.law_programs.specs.rv_mem.declared.fault.TextFault.{TextFault}
+use Rattle.law_programs.specs.rv_mem.declared.fault.TextFault.TheVariants.{BadAddress}
+use Rattle.law_programs.specs.rv_mem.declared.regs.Regs.{Regs}
+use Rattle.law_programs.specs.rv_mem.declared.rights.Use.TheVariants.{Read}
+use Rattle.law_stops.specs.pt_args.Laws.{IsPathText}
+use Rattle.law_stops.specs.kr_calls.Arguments.{long}
+use Rattle.law_stops.specs.kr_calls.Decoding.{accepts, decoding, decoding_of, execve_with, text_limit}
+use Rattle.law_stops.specs.kr_calls.declared.request.Request.{Request}
+use Rattle.law_stops.specs.kr_calls.declared.request.Request.TheVariants as call
+use Rattle.law_stops.proofs.kr_calls.DecodingLemmas.{decoded_are_numbered}
 use Rattle.law_programs.proofs.law_allowed.DecodedLemmas.{decoded-are-givable}
 use Rattle.law_stops.proofs.law_edits.TextLemmas.{accepted_is, text_read_of}
 

@@ -2,7 +2,7 @@
 use Rattle.std.proofs.Common.{ℕ, List, Option, Some, None, Err, refl}
 use Rattle.std.specs.Option.{option_map_or}
 use Rattle.law_programs.specs.pr_base.declared.errno.Errno.TheVariants.{ENOENT}
-use Rattle.pt_args.specs.rv_mem.Actions.{Done}
+use Rattle.law_programs.specs.rv_mem.Actions.{Done}
 use Rattle.law_programs.specs.kr_tree.declared.place.Place.{Place}
 use Rattle.law_stops.specs.kr_view.View.{Row}
 use Rattle.law_programs.specs.kr_exec.Lists.{and_then, lists_at}

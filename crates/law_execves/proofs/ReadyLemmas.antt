@@ -6,8 +6,8 @@ use Rattle.std.specs.Option.{option_map}
 use Rattle.std.proofs.lemmas.Bool.Decides.{nat_tests}
 use Rattle.law_programs.specs.pr_base.declared.errno.Errno.{Errno}
 use Rattle.law_programs.specs.pr_base.declared.errno.Errno.TheVariants.{EACCES, ENOMEM}
-use Rattle.pt_args.specs.rv_mem.Actions.{carried_out}
-use Rattle.pt_args.specs.rv_mem.Memory.{Memory, page_count}
+use Rattle.law_programs.specs.rv_mem.Actions.{carried_out}
+use Rattle.law_programs.specs.rv_mem.Memory.{Memory, page_count}
 use Rattle.law_programs.specs.elf_load.Image.{image_pages, program_break}
 use Rattle.law_programs.specs.kr_tree.Tree.{Tree}
 use Rattle.law_programs.specs.kr_tree.Lawful.{AreBytes}

@@ -3,12 +3,12 @@ use Rattle.std.proofs.Common.{◌≡◌, ℕ, suc, false, Some, None, Result, Ok
 use Rattle.std.specs.Prelude.{neg_ℤ, pos, ◌==◌}
 use Rattle.law_programs.specs.pr_base.Errno.{errno_number}
 use Rattle.law_programs.specs.pr_base.declared.errno.Errno.{Errno}
-use Rattle.pt_args.specs.rv_mem.Actions.{AreEqualUnmarked, CarriedOut, carried_out}
-use Rattle.pt_args.specs.rv_mem.Memory.{Memory}
-use Rattle.pt_args.specs.rv_mem.Pages.{Pages}
-use Rattle.pt_args.specs.rv_mem.declared.regs.Regs.{Regs}
+use Rattle.law_programs.specs.rv_mem.Actions.{AreEqualUnmarked, CarriedOut, carried_out}
+use Rattle.law_programs.specs.rv_mem.Memory.{Memory}
+use Rattle.law_programs.specs.rv_mem.Pages.{Pages}
+use Rattle.law_programs.specs.rv_mem.declared.regs.Regs.{Regs}
 use Rattle.law_stops.specs.kr_view.View.{plain}
-use Rattle.pt_args.specs.kr_calls.declared.request.Request.TheVariants as call
+use Rattle.law_stops.specs.kr_calls.declared.request.Request.TheVariants as call
 use Rattle.law_programs.proofs.law_allowed.DecodedLemmas.{decoding-leaves-pages}
 use Rattle.law_programs.proofs.law_allowed.RowLemmas.{StaysLike, lawful-image}
 use Rattle.law_plans.specs.kr_seen.Carrying.{memory_of, with_memory_of}

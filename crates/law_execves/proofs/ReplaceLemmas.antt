@@ -5,8 +5,8 @@ use Rattle.std.specs.Option.{option_map_or}
 use Rattle.std.proofs.lemmas.List.Elements.{All-head}
 use Rattle.std.proofs.lemmas.Option.{same_Some}
 use Rattle.law_programs.specs.pr_base.Paths.{AreNames, IsName}
-use Rattle.pt_args.specs.pt_bind.Tags.{TagTable, with_tag}
-use Rattle.pt_args.specs.pt_bind.declared.slot.Slot.TheVariants.{Exe}
+use Rattle.law_stops.specs.pt_bind.Tags.{TagTable, with_tag}
+use Rattle.law_stops.specs.pt_bind.declared.slot.Slot.TheVariants.{Exe}
 use Rattle.law_programs.specs.kr_tree.Tree.{Body, Directory, Inode, ProcessDirectory, RegularFile, SymbolicLink, Tree, inode, is_directory, is_file}
 use Rattle.law_programs.specs.kr_tree.declared.place.Host.{Host}
 use Rattle.law_programs.specs.kr_tree.declared.place.Host.TheVariants.{Node, Proc}

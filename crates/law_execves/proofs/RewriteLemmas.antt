@@ -3,19 +3,19 @@ use Rattle.std.proofs.Common.{◌≡◌, ◌≢◌, ℕ, Bool, true, false, List
 use Rattle.std.specs.Bool.{if◌then◌else◌}
 use Rattle.law_programs.specs.pr_base.Paths.{is_absolute, slash}
 use Rattle.law_programs.specs.pr_base.declared.errno.Errno.{Errno}
-use Rattle.pt_args.specs.Bases as bases
-use Rattle.pt_args.specs.Bases.{working_text}
-use Rattle.pt_args.specs.Edits.{edit_by, edit_of}
-use Rattle.pt_args.specs.Plans.{plan_from}
-use Rattle.pt_args.specs.Walks.{and_then, reached_at, walked_from}
-use Rattle.pt_args.specs.pt_canon.TextWalk.{TextSurroundings}
-use Rattle.pt_args.specs.pt_canon.declared.canon.Canon.{Canon}
+use Rattle.law_stops.specs.pt_args.Bases as bases
+use Rattle.law_stops.specs.pt_args.Bases.{working_text}
+use Rattle.law_stops.specs.pt_args.Edits.{edit_by, edit_of}
+use Rattle.law_stops.specs.pt_args.Plans.{plan_from}
+use Rattle.law_stops.specs.pt_args.Walks.{and_then, reached_at, walked_from}
+use Rattle.law_plans.specs.pt_canon.TextWalk.{TextSurroundings}
+use Rattle.law_plans.specs.pt_canon.declared.canon.Canon.{Canon}
 use Rattle.law_stops.specs.pt_script.Programs as programs
 use Rattle.law_stops.specs.pt_script.Programs.{canon_from}
 use Rattle.law_programs.specs.pr_base.declared.path.WalkMode.TheVariants.{Look}
-use Rattle.pt_args.specs.kr_calls.PathTable.{PathUse, working_directory}
-use Rattle.pt_args.specs.kr_calls.declared.request.Request.{Request}
-use Rattle.pt_args.specs.kr_calls.declared.request.Request.TheVariants as call
+use Rattle.law_stops.specs.kr_calls.PathTable.{PathUse, working_directory}
+use Rattle.law_stops.specs.kr_calls.declared.request.Request.{Request}
+use Rattle.law_stops.specs.kr_calls.declared.request.Request.TheVariants as call
 use Rattle.law_programs.specs.Refusing.{canon_along}
 use Rattle.law_execves.specs.Rewriting.{ExecvesAreRewritten, edit_along}
 

@@ -6,14 +6,14 @@ use Rattle.std.specs.Prelude.{◌==◌, slice_set}
 use Rattle.std.specs.Int.{cast_signed, w64}
 use Rattle.std.proofs.lemmas.List.{get_or-set_other, get_or-set_same, length-set}
 use Rattle.law_programs.specs.pr_base.declared.errno.Errno.{Errno}
-use Rattle.pt_args.specs.rv_mem.Actions.{carried_out}
-use Rattle.pt_args.specs.rv_mem.Memory.{Memory, text_of}
-use Rattle.pt_args.specs.rv_mem.declared.regs.Regs.{Regs}
-use Rattle.pt_args.specs.kr_calls.Arguments.{long, number}
-use Rattle.pt_args.specs.kr_calls.Decoding.{accepts, decoding, decoding_of, decoded_execve, execve_with, text_limit}
-use Rattle.pt_args.specs.kr_calls.declared.request.Request.{Request}
-use Rattle.pt_args.specs.kr_calls.declared.request.Request.TheVariants as call
-use Rattle.pt_args.proofs.kr_calls.DecodingLemmas.{decoded_are_numbered}
+use Rattle.law_programs.specs.rv_mem.Actions.{carried_out}
+use Rattle.law_programs.specs.rv_mem.Memory.{Memory, text_of}
+use Rattle.law_programs.specs.rv_mem.declared.regs.Regs.{Regs}
+use Rattle.law_stops.specs.kr_calls.Arguments.{long, number}
+use Rattle.law_stops.specs.kr_calls.Decoding.{accepts, decoding, decoding_of, decoded_execve, execve_with, text_limit}
+use Rattle.law_stops.specs.kr_calls.declared.request.Request.{Request}
+use Rattle.law_stops.specs.kr_calls.declared.request.Request.TheVariants as call
+use Rattle.law_stops.proofs.kr_calls.DecodingLemmas.{decoded_are_numbered}
 use Rattle.law_stops.specs.kr_model.State.{Image}
 use Rattle.law_stops.specs.kr_stops.Stopped.{IsThere, Stopped, edited, image_at}
 use Rattle.law_stops.specs.pt_results.Notes.{noted, tags_after}

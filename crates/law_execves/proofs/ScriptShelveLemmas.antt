@@ -7,16 +7,16 @@ use Rattle.std.proofs.lemmas.Bool.{and_parts, ltb-false}
 use Rattle.law_programs.proofs.pr_base.MapLemmas.{get-insert_same}
 use Rattle.law_programs.specs.pr_base.declared.errno.Errno.{Errno}
 use Rattle.law_programs.specs.pr_base.declared.errno.Errno.TheVariants.{EFAULT}
-use Rattle.pt_args.specs.rv_mem.Actions.{AreEqualUnmarked, carried_out}
-use Rattle.pt_args.specs.rv_mem.Memory.{Memory, text_of, with_pages}
-use Rattle.pt_args.specs.rv_mem.Pages.{HoldsBytes, IsWhole, Pages, allows, allows_all}
-use Rattle.pt_args.specs.rv_mem.declared.regs.Regs.{Regs}
-use Rattle.pt_args.specs.rv_mem.declared.rights.Use.TheVariants.{Read, Write}
-use Rattle.pt_args.specs.Laws.{IsPathText, ShelvesHoldTheirItems, StandBetween, poked as pages_poked, room_of}
-use Rattle.pt_args.specs.Shelving.{shelved, with_zero}
-use Rattle.pt_args.specs.kr_calls.Decoding.{decoding}
-use Rattle.pt_args.specs.kr_calls.declared.request.Request.{Request}
-use Rattle.pt_args.specs.kr_calls.declared.request.Request.TheVariants as call
+use Rattle.law_programs.specs.rv_mem.Actions.{AreEqualUnmarked, carried_out}
+use Rattle.law_programs.specs.rv_mem.Memory.{Memory, text_of, with_pages}
+use Rattle.law_programs.specs.rv_mem.Pages.{HoldsBytes, IsWhole, Pages, allows, allows_all}
+use Rattle.law_programs.specs.rv_mem.declared.regs.Regs.{Regs}
+use Rattle.law_programs.specs.rv_mem.declared.rights.Use.TheVariants.{Read, Write}
+use Rattle.law_stops.specs.pt_args.Laws.{IsPathText, ShelvesHoldTheirItems, StandBetween, poked as pages_poked, room_of}
+use Rattle.law_stops.specs.pt_args.Shelving.{shelved, with_zero}
+use Rattle.law_stops.specs.kr_calls.Decoding.{decoding}
+use Rattle.law_stops.specs.kr_calls.declared.request.Request.{Request}
+use Rattle.law_stops.specs.kr_calls.declared.request.Request.TheVariants as call
 use Rattle.law_programs.proofs.law_allowed.RowLemmas.{StaysLike}
 use Rattle.law_plans.specs.kr_calm.Shelf.{stack_pointer}
 use Rattle.law_stops.specs.law_kept.Bytes.{HasBytes}

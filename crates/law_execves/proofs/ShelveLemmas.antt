@@ -8,19 +8,19 @@ use Rattle.std.proofs.lemmas.List.{length-set}
 use Rattle.law_programs.proofs.pr_base.MapLemmas.{get-insert_same}
 use Rattle.law_programs.specs.pr_base.declared.errno.Errno.{Errno}
 use Rattle.law_programs.specs.pr_base.declared.errno.Errno.TheVariants.{EFAULT}
-use Rattle.pt_args.specs.rv_mem.Actions.{Action, AreEqualUnmarked, Done, MayUse, ReadBytes, WriteBytes, allows_uses, carried_out}
-use Rattle.pt_args.specs.rv_mem.Memory.{Memory, after_read, with_pages}
-use Rattle.pt_args.specs.rv_mem.Pages.{HoldsBytes, Pages, allows_all, bytes_from, written}
-use Rattle.pt_args.specs.rv_mem.declared.regs.Regs.{Regs}
-use Rattle.pt_args.specs.rv_mem.declared.rights.Use.TheVariants.{Write}
-use Rattle.pt_args.specs.Laws.{ShelvesHoldTheirItems, TextsAreReadBack, poked as pages_poked}
-use Rattle.pt_args.specs.declared.edit.Edit.{Edit}
-use Rattle.pt_args.specs.declared.edit.Edit.TheVariants.{Pass}
+use Rattle.law_programs.specs.rv_mem.Actions.{Action, AreEqualUnmarked, Done, MayUse, ReadBytes, WriteBytes, allows_uses, carried_out}
+use Rattle.law_programs.specs.rv_mem.Memory.{Memory, after_read, with_pages}
+use Rattle.law_programs.specs.rv_mem.Pages.{HoldsBytes, Pages, allows_all, bytes_from, written}
+use Rattle.law_programs.specs.rv_mem.declared.regs.Regs.{Regs}
+use Rattle.law_programs.specs.rv_mem.declared.rights.Use.TheVariants.{Write}
+use Rattle.law_stops.specs.pt_args.Laws.{ShelvesHoldTheirItems, TextsAreReadBack, poked as pages_poked}
+use Rattle.law_stops.specs.pt_args.declared.edit.Edit.{Edit}
+use Rattle.law_stops.specs.pt_args.declared.edit.Edit.TheVariants.{Pass}
 use Rattle.law_stops.specs.pt_ident.Identity.{refusal}
 use Rattle.law_stops.specs.pt_results.Notes.{noted, tags_after}
-use Rattle.pt_args.specs.kr_calls.Decoding.{decoding}
-use Rattle.pt_args.specs.kr_calls.declared.request.Request.{Request}
-use Rattle.pt_args.specs.kr_calls.declared.request.Request.TheVariants as call
+use Rattle.law_stops.specs.kr_calls.Decoding.{decoding}
+use Rattle.law_stops.specs.kr_calls.declared.request.Request.{Request}
+use Rattle.law_stops.specs.kr_calls.declared.request.Request.TheVariants as call
 use Rattle.law_programs.proofs.law_allowed.RowLemmas.{StaysLike}
 use Rattle.law_plans.specs.kr_calm.Shelf.{stack_pointer}
 use Rattle.law_stops.proofs.law_kept.ListLemmas.{joined}

@@ -1,7 +1,7 @@
 -- What an execve(2) comes to without an identity, so it does with one: a new program is told who it is on both machines.
 use Rattle.std.proofs.Common.{refl}
-use Rattle.pt_args.specs.Laws.{ShelvesHoldTheirItems, TextsAreReadBack}
-use Rattle.pt_args.specs.kr_calls.declared.request.Request.TheVariants as call
+use Rattle.law_stops.specs.pt_args.Laws.{ShelvesHoldTheirItems, TextsAreReadBack}
+use Rattle.law_stops.specs.kr_calls.declared.request.Request.TheVariants as call
 use Rattle.law_stops.specs.pt_faker.Faking.{Faking}
 use Rattle.law_stops.specs.Beginning.{GoesUntoldToProgram}
 use Rattle.law_stops.specs.Going.{untold}

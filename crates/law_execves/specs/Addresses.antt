@@ -1,8 +1,8 @@
 -- The addresses of a script's arguments that a tracer keeps.
 use Rattle.std.specs.Prelude.{◌≡◌, ◌-◌, ℕ, List, length, Ok}
-use Rattle.pt_args.specs.rv_mem.Actions.{carried_out}
-use Rattle.pt_args.specs.rv_mem.Memory.{Memory}
-use Rattle.pt_args.specs.rv_mem.Pages.{IsPlaced}
+use Rattle.law_programs.specs.rv_mem.Actions.{carried_out}
+use Rattle.law_programs.specs.rv_mem.Memory.{Memory}
+use Rattle.law_programs.specs.rv_mem.Pages.{IsPlaced}
 use Rattle.law_programs.specs.kr_exec.declared.lists.Lists.{Lists}
 use Rattle.law_stops.specs.pt_faker.Reading.{addresses_behind}
 use Rattle.law_programs.specs.Executing.{read_by_kernel}

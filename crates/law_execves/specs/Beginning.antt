@@ -1,11 +1,11 @@
 -- Execve(2) as it begins on both machines.
 use Rattle.std.specs.Prelude.{◌≡◌, ℕ, List, Ok}
-use Rattle.pt_args.specs.rv_mem.Layout.{layout_of}
-use Rattle.pt_args.specs.rv_mem.Memory.{Memory}
-use Rattle.pt_args.specs.rv_mem.Pages.{IsPlaced, IsWhole}
-use Rattle.pt_args.specs.rv_mem.declared.regs.Regs.{Regs}
-use Rattle.pt_args.specs.Bases.{working_text}
-use Rattle.pt_args.specs.kr_calls.declared.request.Request.TheVariants as call
+use Rattle.law_programs.specs.rv_mem.Layout.{layout_of}
+use Rattle.law_programs.specs.rv_mem.Memory.{Memory}
+use Rattle.law_programs.specs.rv_mem.Pages.{IsPlaced, IsWhole}
+use Rattle.law_programs.specs.rv_mem.declared.regs.Regs.{Regs}
+use Rattle.law_stops.specs.pt_args.Bases.{working_text}
+use Rattle.law_stops.specs.kr_calls.declared.request.Request.TheVariants as call
 use Rattle.law_stops.specs.kr_steps.Computing.{computed}
 use Rattle.law_stops.specs.pt_faker.Stopping.{memory_at}
 use Rattle.law_stops.specs.Scene.{IsCalm, Scene, asked, caller_there, here, texts_there}

@@ -1,6 +1,6 @@
 -- Execve(2) with its stops.
 use Rattle.std.specs.Prelude.{◌≡◌, ℕ, List, Ok}
-use Rattle.pt_args.specs.kr_calls.declared.request.Request.TheVariants as call
+use Rattle.law_stops.specs.kr_calls.declared.request.Request.TheVariants as call
 use Rattle.law_stops.specs.Scene.{IsCalm, Scene, asked}
 use Rattle.law_stops.specs.Turning.{ComeToCall, StayTogether}
 

@@ -2,15 +2,15 @@
 use Rattle.std.specs.FinMap as map
 use Rattle.std.specs.Prelude.{◌≡◌, ℕ, ℤ, Bool, List, Option, None, Some, Result, Ok, Err, slice_set}
 use Rattle.law_programs.specs.pr_base.declared.errno.Errno.{Errno}
-use Rattle.pt_args.specs.rv_mem.Actions.{AreEqualUnmarked, CarriedOut, carried_out}
-use Rattle.pt_args.specs.rv_mem.Layout.{layout_of}
-use Rattle.pt_args.specs.rv_mem.Memory.{Memory}
-use Rattle.pt_args.specs.rv_mem.Pages.{HoldsBytes, IsPlaced, IsWhole}
-use Rattle.pt_args.specs.rv_mem.declared.regs.Regs.{Regs}
+use Rattle.law_programs.specs.rv_mem.Actions.{AreEqualUnmarked, CarriedOut, carried_out}
+use Rattle.law_programs.specs.rv_mem.Layout.{layout_of}
+use Rattle.law_programs.specs.rv_mem.Memory.{Memory}
+use Rattle.law_programs.specs.rv_mem.Pages.{HoldsBytes, IsPlaced, IsWhole}
+use Rattle.law_programs.specs.rv_mem.declared.regs.Regs.{Regs}
 use Rattle.law_stops.specs.kr_view.View.{plain}
-use Rattle.pt_args.specs.kr_calls.Decoding.{decoding}
-use Rattle.pt_args.specs.kr_calls.declared.request.Request.{Request}
-use Rattle.pt_args.specs.kr_calls.declared.request.Request.TheVariants as call
+use Rattle.law_stops.specs.kr_calls.Decoding.{decoding}
+use Rattle.law_stops.specs.kr_calls.declared.request.Request.{Request}
+use Rattle.law_stops.specs.kr_calls.declared.request.Request.TheVariants as call
 use Rattle.law_plans.specs.kr_seen.Carrying.{memory_of}
 use Rattle.law_programs.specs.kr_execve.Execution.{Program, execution}
 use Rattle.law_stops.specs.kr_model.State.{Image, State}

@@ -1,13 +1,13 @@
 -- A program that execve(2) came to, and states in which it is put in place of a caller's.
 use Rattle.std.specs.Prelude.{◌≡◌, ℕ, true, false, IsSome, List, Some, None, Ok}
 use Rattle.law_programs.specs.kr_tree.Lawful.{AreBytes}
-use Rattle.pt_args.specs.rv_mem.Actions.{carried_out}
-use Rattle.pt_args.specs.rv_mem.Memory.{Memory}
+use Rattle.law_programs.specs.rv_mem.Actions.{carried_out}
+use Rattle.law_programs.specs.rv_mem.Memory.{Memory}
 use Rattle.law_programs.specs.elf_load.Image.{image_exceeds}
 use Rattle.law_programs.specs.elf_read.Plans.{plan_of}
 use Rattle.law_programs.specs.elf_read.Rules.{first_broken}
-use Rattle.pt_args.specs.pt_bind.Tags.{TagTable, with_tag}
-use Rattle.pt_args.specs.pt_bind.declared.slot.Slot.TheVariants.{Exe}
+use Rattle.law_stops.specs.pt_bind.Tags.{TagTable, with_tag}
+use Rattle.law_stops.specs.pt_bind.declared.slot.Slot.TheVariants.{Exe}
 use Rattle.law_stops.specs.kr_inode.declared.user.User.{User}
 use Rattle.law_programs.specs.kr_tree.Tree.{Tree}
 use Rattle.law_stops.specs.kr_view.InTree.{IsPlaceOf}

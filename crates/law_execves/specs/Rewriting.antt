@@ -1,13 +1,13 @@
 -- What a tracer makes of the path of execve(2), before it reads the lists.
 use Rattle.std.specs.Prelude.{◌≡◌, ◌≢◌, ℕ, Bool, List, [], None, Result, Ok, Err}
 use Rattle.law_programs.specs.pr_base.declared.errno.Errno.{Errno}
-use Rattle.pt_args.specs.Bases.{working_text}
-use Rattle.pt_args.specs.Edits.{edit_of, shelve}
-use Rattle.pt_args.specs.declared.edit.Edit.{Edit}
-use Rattle.pt_args.specs.declared.edit.Edit.TheVariants.{Cancel, Pass}
-use Rattle.pt_args.specs.pt_canon.TextWalk.{TextSurroundings}
-use Rattle.pt_args.specs.pt_canon.declared.canon.Canon.{Canon}
-use Rattle.pt_args.specs.kr_calls.declared.request.Request.TheVariants as call
+use Rattle.law_stops.specs.pt_args.Bases.{working_text}
+use Rattle.law_stops.specs.pt_args.Edits.{edit_of, shelve}
+use Rattle.law_stops.specs.pt_args.declared.edit.Edit.{Edit}
+use Rattle.law_stops.specs.pt_args.declared.edit.Edit.TheVariants.{Cancel, Pass}
+use Rattle.law_plans.specs.pt_canon.TextWalk.{TextSurroundings}
+use Rattle.law_plans.specs.pt_canon.declared.canon.Canon.{Canon}
+use Rattle.law_stops.specs.kr_calls.declared.request.Request.TheVariants as call
 use Rattle.law_programs.specs.Refusing.{canon_along}
 
 -- the host text of where it leads takes its place, or the call is cancelled with the error of the walk

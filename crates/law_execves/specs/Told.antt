@@ -1,6 +1,6 @@
 -- Execve(2) with its stops, where processes are told an identity.
 use Rattle.std.specs.Prelude.{◌≡◌, ℕ, List, Ok}
-use Rattle.pt_args.specs.kr_calls.declared.request.Request.TheVariants as call
+use Rattle.law_stops.specs.kr_calls.declared.request.Request.TheVariants as call
 use Rattle.law_stops.specs.pt_faker.Faking.{Faking}
 use Rattle.law_stops.specs.Beginning.{GoesUntoldToProgram}
 use Rattle.law_stops.specs.Going.{ComeToFakedCall, GoesTogether}

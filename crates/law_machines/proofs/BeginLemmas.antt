@@ -24,7 +24,7 @@ use Rattle.law_starts.specs.pr_start.Directory.{At, directory_reach, working_dir
 use Rattle.law_starts.specs.pr_start.TracedBeginning as traced
 use Rattle.law_starts.specs.pr_start.TracedBeginning.{begun_as, texts_before, traced_beginning, tracing_of}
 use Rattle.law_starts.specs.pt_faker.declared.watch.Watch.{Watch}
-use Rattle.pt_args.specs.pt_canon.TextWalk.{TextSurroundings}
+use Rattle.law_starts.specs.pt_canon.TextWalk.{TextSurroundings}
 use Rattle.law_starts.specs.pt_first.GuestStart.{guest_start}
 use Rattle.law_starts.specs.pt_first.declared.begun.Begun.{Begun}
 use Rattle.law_starts.specs.law_kept.Bytes.{AreAllBytes, HasBytes, TableHasBytes}

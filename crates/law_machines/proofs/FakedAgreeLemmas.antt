@@ -3,7 +3,7 @@ use Rattle.std.proofs.Common.{◌≡◌, ℕ, List, Some, None, refl, sym, ap, s
 use Rattle.std.specs.Prelude.{Result, Ok, Err}
 use Rattle.pr_top.specs.pr_base.declared.errno.Errno.{Errno}
 use Rattle.pr_top.specs.pr_words.declared.launch.Launch.{Launch}
-use Rattle.pt_args.specs.Laws.{ShelvesHoldTheirItems, TextsAreReadBack}
+use Rattle.law_starts.specs.pt_args.Laws.{ShelvesHoldTheirItems, TextsAreReadBack}
 use Rattle.law_starts.specs.kr_calm.Calm.{broken_at_start}
 use Rattle.pr_top.specs.kr_inode.declared.user.User.{User}
 use Rattle.pr_top.specs.kr_mounts.Standing.{texts_of}

@@ -1,9 +1,9 @@
 -- Every call of a calm run keeps both machines together, where processes are told an identity.
 use Rattle.std.proofs.Common.{◌≡◌, true, List, Ok}
 use Rattle.std.proofs.lemmas.Bool.{false≢true}
-use Rattle.pt_args.specs.Laws.{ShelvesHoldTheirItems, TextsAreReadBack}
-use Rattle.pt_args.specs.kr_calls.declared.request.Request.{Request}
-use Rattle.pt_args.specs.kr_calls.declared.request.Request.TheVariants as call
+use Rattle.law_starts.specs.pt_args.Laws.{ShelvesHoldTheirItems, TextsAreReadBack}
+use Rattle.law_starts.specs.kr_calls.declared.request.Request.{Request}
+use Rattle.law_starts.specs.kr_calls.declared.request.Request.TheVariants as call
 use Rattle.pr_top.specs.kr_view.View.{Row}
 use Rattle.law_starts.specs.pt_faker.Faking.{Faking}
 use Rattle.law_starts.specs.pt_tracer.Watched.{is_execve}

@@ -3,7 +3,7 @@ use Rattle.std.specs.FinMap as map
 use Rattle.std.proofs.Common.{Bool, true, false, cond, Option, Some, None, refl}
 use Rattle.std.specs.Prelude.{Err, Ok, Result}
 use Rattle.pr_top.specs.pr_base.declared.errno.Errno.{Errno}
-use Rattle.pt_args.specs.kr_calls.declared.request.Request.{Request}
+use Rattle.law_starts.specs.kr_calls.declared.request.Request.{Request}
 use Rattle.law_starts.specs.kr_stops.Stopped.{Stopped}
 use Rattle.law_starts.specs.pt_ident.Identity.{Effect, after_exec, effect, on_memory}
 use Rattle.law_starts.specs.pt_ident.IdentityTable.{identity_at}
@@ -11,7 +11,7 @@ use Rattle.law_starts.specs.pt_faker.Faking.{Faking, after_decoding, after_due, 
 use Rattle.law_starts.specs.pt_faker.Stopping.{after_request, decoded_at, memory_at, register_at, with_memory, with_register}
 use Rattle.law_starts.specs.pt_faker.declared.due.Due.{Due}
 use Rattle.law_starts.specs.pt_faker.declared.due.Due.TheVariants.{BeginsProgram, ForgivesRoot, Remembers, ShowsOwner, Tells}
-use Rattle.pt_args.specs.rv_mem.Actions.{carried_out}
+use Rattle.law_starts.specs.rv_mem.Actions.{carried_out}
 use Rattle.law_starts.specs.law_kept.Bytes.{HasBytes}
 use Rattle.law_machines.specs.Watchers.{FakersWatchBytes}
 use Rattle.law_machines.proofs.StopLemmas.{Fine, carried-keeps, effect-puts, forgiven-keeps, identity-puts, register-keeps, request-keeps, shown-keeps, uncalled-keeps}

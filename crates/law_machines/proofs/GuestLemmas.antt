@@ -8,14 +8,14 @@ use Rattle.pr_top.specs.pr_base.declared.path.WalkMode.TheVariants.{Look}
 use Rattle.pr_top.specs.pr_words.Command.{arguments, candidate, directories, has_slash, path_of, word_of}
 use Rattle.pr_top.specs.pr_words.declared.launch.Launch.{Launch}
 use Rattle.law_starts.specs.pt_bind.Binding.{names_of}
-use Rattle.pt_args.specs.pt_canon.TextWalk.{TextSurroundings}
-use Rattle.pt_args.specs.pt_canon.declared.canon.Canon.{Canon}
-use Rattle.pt_args.specs.Walks.{and_then}
+use Rattle.law_starts.specs.pt_canon.TextWalk.{TextSurroundings}
+use Rattle.law_starts.specs.pt_canon.declared.canon.Canon.{Canon}
+use Rattle.law_starts.specs.pt_args.Walks.{and_then}
 use Rattle.law_starts.specs.pt_script.Expanding.{expanded_from}
 use Rattle.law_starts.specs.pt_script.Programs.{canon_from, program_from}
 use Rattle.law_starts.specs.pt_script.declared.expansion.Expanded.{Expanded}
 use Rattle.law_starts.specs.pt_script.declared.program.Program.{Program}
-use Rattle.pt_args.specs.kr_calls.Expansion.{bytes_with_ends}
+use Rattle.law_starts.specs.kr_calls.Expansion.{bytes_with_ends}
 use Rattle.law_starts.specs.kr_exec.Exec.{are_too_big}
 use Rattle.law_starts.specs.kr_first.Starting.{is_walked, path_errno}
 use Rattle.pr_top.specs.kr_inode.declared.user.User.{User}

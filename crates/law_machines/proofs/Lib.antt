@@ -1,3 +1,5 @@
+pub use Rattle.pr_top.proofs.pr_words as pr_words
+pub use Rattle.pr_top.proofs.pr_sources as pr_sources
 pub mod PieceLemmas
 pub mod GivenLemmas
 pub mod GrownLemmas

@@ -12,10 +12,10 @@ use Rattle.pr_top.specs.pr_base.declared.peeks.PeekKind.TheVariants as kind
 use Rattle.law_starts.specs.pt_bind.Binding.{host_of, names_of}
 use Rattle.law_starts.specs.pt_bind.Tags.{tag_of}
 use Rattle.law_starts.specs.pt_bind.declared.slot.Slot.TheVariants as slot
-use Rattle.pt_args.specs.pt_canon.ProcessLinks.{above, head_of, is_dir_kind, jump_at, landing_of, landing_of_guest, landing_of_name, link_at, link_guest, link_name, text_landing}
-use Rattle.pt_args.specs.pt_canon.TextWalk.{SeenText, TextSurroundings, in_directory, inside_text, is_missing, itself_in, look_text, seen_error, seen_kind, seen_link, seen_text, where_found}
-use Rattle.pt_args.specs.pt_canon.declared.link.ProcessLink.{ProcessLink}
-use Rattle.pt_args.specs.pt_canon.declared.link.ProcessLink.TheVariants.{Cwd, Exe, Fd, Root}
+use Rattle.law_starts.specs.pt_canon.ProcessLinks.{above, head_of, is_dir_kind, jump_at, landing_of, landing_of_guest, landing_of_name, link_at, link_guest, link_name, text_landing}
+use Rattle.law_starts.specs.pt_canon.TextWalk.{SeenText, TextSurroundings, in_directory, inside_text, is_missing, itself_in, look_text, seen_error, seen_kind, seen_link, seen_text, where_found}
+use Rattle.law_starts.specs.pt_canon.declared.link.ProcessLink.{ProcessLink}
+use Rattle.law_starts.specs.pt_canon.declared.link.ProcessLink.TheVariants.{Cwd, Exe, Fd, Root}
 use Rattle.pr_top.specs.kr_tree.Lawful.{AreBytes}
 use Rattle.law_starts.specs.law_kept.Bytes.{AreAllBytes}
 use Rattle.law_starts.proofs.law_kept.NameLemmas.{if-mapped, if-then}

@@ -18,25 +18,25 @@ use Rattle.pr_top.specs.pr_base.declared.peeks.PeekKind.TheVariants as kind
 use Rattle.law_starts.specs.pt_bind.Binding.{guest_of, host_of, names_of}
 use Rattle.law_starts.specs.pt_bind.Tags.{tag_of}
 use Rattle.law_starts.specs.pt_bind.declared.slot.Slot.TheVariants as slot
-use Rattle.pt_args.specs.pt_canon.Canon.{canon_of}
-use Rattle.pt_args.specs.pt_canon.TextWalk.{TextSurroundings}
-use Rattle.pt_args.specs.pt_canon.declared.canon.Canon.{Canon}
-use Rattle.pt_args.specs.kr_calls.PathTable.{PathUse, path_at}
-use Rattle.pt_args.specs.kr_calls.declared.request.Request.{Request}
-use Rattle.pt_args.specs.kr_calls.declared.request.Request.TheVariants as call
+use Rattle.law_starts.specs.pt_canon.Canon.{canon_of}
+use Rattle.law_starts.specs.pt_canon.TextWalk.{TextSurroundings}
+use Rattle.law_starts.specs.pt_canon.declared.canon.Canon.{Canon}
+use Rattle.law_starts.specs.kr_calls.PathTable.{PathUse, path_at}
+use Rattle.law_starts.specs.kr_calls.declared.request.Request.{Request}
+use Rattle.law_starts.specs.kr_calls.declared.request.Request.TheVariants as call
 use Rattle.pr_top.specs.kr_tree.Lawful.{AreBytes}
-use Rattle.pt_args.specs.Bases.{base_of, descriptor_base, descriptor_number, is_working_directory, numbered_base, or_lost, tagged_text, working_base, working_text}
-use Rattle.pt_args.specs.Edits.{both, edit_by, edit_of, is_long, item_of, put_edit, shelve}
-use Rattle.pt_args.specs.Plans.{first_walked, plan_behind, plan_both, plan_first, plan_from, plan_one, second_walked}
-use Rattle.pt_args.specs.Points.{both_are_busy, one_is_busy}
-use Rattle.pt_args.specs.Purposes.{entry_swap, made_swap, named_path, opens, own_path, swap_for}
-use Rattle.pt_args.specs.Shelving.{address_below, shelved, with_zero}
-use Rattle.pt_args.specs.Walks.{and_then, reached_at, walked, walked_along, walked_from}
-use Rattle.pt_args.specs.declared.edit.Edit.{Edit}
-use Rattle.pt_args.specs.declared.edit.Edit.TheVariants.{Cancel, Emulate, Pass, Swap}
-use Rattle.pt_args.specs.declared.purpose.Purpose.{Purpose}
-use Rattle.pt_args.specs.declared.purpose.Purpose.TheVariants.{LooksUp, MayMake, NamesEntry}
-use Rattle.pt_args.specs.declared.reached.Reached.{Reached}
+use Rattle.law_starts.specs.pt_args.Bases.{base_of, descriptor_base, descriptor_number, is_working_directory, numbered_base, or_lost, tagged_text, working_base, working_text}
+use Rattle.law_starts.specs.pt_args.Edits.{both, edit_by, edit_of, is_long, item_of, put_edit, shelve}
+use Rattle.law_starts.specs.pt_args.Plans.{first_walked, plan_behind, plan_both, plan_first, plan_from, plan_one, second_walked}
+use Rattle.law_starts.specs.pt_args.Points.{both_are_busy, one_is_busy}
+use Rattle.law_starts.specs.pt_args.Purposes.{entry_swap, made_swap, named_path, opens, own_path, swap_for}
+use Rattle.law_starts.specs.pt_args.Shelving.{address_below, shelved, with_zero}
+use Rattle.law_starts.specs.pt_args.Walks.{and_then, reached_at, walked, walked_along, walked_from}
+use Rattle.law_starts.specs.pt_args.declared.edit.Edit.{Edit}
+use Rattle.law_starts.specs.pt_args.declared.edit.Edit.TheVariants.{Cancel, Emulate, Pass, Swap}
+use Rattle.law_starts.specs.pt_args.declared.purpose.Purpose.{Purpose}
+use Rattle.law_starts.specs.pt_args.declared.purpose.Purpose.TheVariants.{LooksUp, MayMake, NamesEntry}
+use Rattle.law_starts.specs.pt_args.declared.reached.Reached.{Reached}
 use Rattle.law_starts.specs.pt_results.Answers.{cwd_answer, directory_answer, jump_answer, kind_answer, led_answer, nowhere_answer, path_answer, walked_answer}
 use Rattle.law_starts.specs.pt_results.Numbers.{count_of}
 use Rattle.law_starts.specs.pt_tracer.Planning.{answered, edit_for, has_shelf, rewritten, stack_at}

@@ -6,19 +6,19 @@ use Rattle.pr_top.specs.pr_base.Paths.{is_absolute, slash}
 use Rattle.pr_top.specs.pr_base.declared.errno.Errno.{Errno}
 use Rattle.pr_top.specs.pr_base.declared.errno.Errno.TheVariants.{E2BIG, ELOOP, ENAMETOOLONG}
 use Rattle.pr_top.specs.pr_base.declared.path.WalkMode.TheVariants.{Look}
-use Rattle.pt_args.specs.rv_mem.Actions.{Done}
-use Rattle.pt_args.specs.kr_calls.Expansion.{Expanded as Ended, Onward, bytes_with_ends, by_interpreter, by_line, expanded, is_script, is_too_big, most_scripts, new_args, runs}
-use Rattle.pt_args.specs.kr_calls.Scripts.{script_of}
+use Rattle.law_starts.specs.rv_mem.Actions.{Done}
+use Rattle.law_starts.specs.kr_calls.Expansion.{Expanded as Ended, Onward, bytes_with_ends, by_interpreter, by_line, expanded, is_script, is_too_big, most_scripts, new_args, runs}
+use Rattle.law_starts.specs.kr_calls.Scripts.{script_of}
 use Rattle.law_starts.specs.kr_exec.Lists as lists
 use Rattle.law_starts.specs.kr_exec.Lists.{Trying, address_at, at_least_one, if_it_fits, most_bytes, most_texts, next_address}
 use Rattle.pr_top.specs.kr_tree.Lawful.{AreBytes}
 use Rattle.law_starts.proofs.law_allowed.PieceLemmas.{all-append}
 use Rattle.law_starts.specs.pt_bind.Binding.{names_of}
-use Rattle.pt_args.specs.pt_canon.TextWalk.{TextSurroundings}
-use Rattle.pt_args.specs.Shelving.{address_below, with_item, with_zero}
-use Rattle.pt_args.specs.Walks.{and_then}
-use Rattle.pt_args.specs.declared.edit.Edit.TheVariants.{Cancel}
-use Rattle.pt_args.specs.declared.shelf.Shelf.{Shelf}
+use Rattle.law_starts.specs.pt_canon.TextWalk.{TextSurroundings}
+use Rattle.law_starts.specs.pt_args.Shelving.{address_below, with_item, with_zero}
+use Rattle.law_starts.specs.pt_args.Walks.{and_then}
+use Rattle.law_starts.specs.pt_args.declared.edit.Edit.TheVariants.{Cancel}
+use Rattle.law_starts.specs.pt_args.declared.shelf.Shelf.{Shelf}
 use Rattle.law_starts.specs.pt_script.Expanding.{command_of, ends_of, expanded_from, shown_result}
 use Rattle.law_starts.specs.pt_script.Programs.{base_from, canon_from, head_size, or_lost, program_from, program_in, programs}
 use Rattle.law_starts.specs.pt_script.declared.expansion.Expanded.{Expanded}

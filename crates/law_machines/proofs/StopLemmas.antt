@@ -4,7 +4,7 @@ use Rattle.std.specs.Prelude.{◌==◌}
 use Rattle.std.specs.Int.{to_le_bytes, w32, w64}
 use Rattle.std.proofs.Math.Seq.{sets}
 use Rattle.pr_top.specs.pr_base.Fields.{little_endian}
-use Rattle.pt_args.specs.rv_mem.Actions.{Action, carried_out}
+use Rattle.law_starts.specs.rv_mem.Actions.{Action, carried_out}
 use Rattle.pr_top.specs.kr_inode.declared.user.User.{User}
 use Rattle.pr_top.specs.kr_tree.Lawful.{AreBytes}
 use Rattle.law_starts.specs.kr_stops.Stopped.{Stopped, image_at}

@@ -6,18 +6,18 @@ use Rattle.std.specs.List.{AllByRecursion}
 use Rattle.pr_top.specs.pr_base.MountText.{MountText}
 use Rattle.pr_top.specs.pr_base.declared.errno.Errno.{Errno}
 use Rattle.pr_top.specs.pr_base.declared.errno.Errno.TheVariants.{EFAULT}
-use Rattle.pt_args.specs.rv_mem.Actions.{carried_out}
+use Rattle.law_starts.specs.rv_mem.Actions.{carried_out}
 use Rattle.pr_top.specs.kr_inode.declared.user.User.{User}
-use Rattle.pt_args.specs.kr_calls.PathTable.{PathUse, path_at}
-use Rattle.pt_args.specs.kr_calls.declared.request.Request.{Request}
+use Rattle.law_starts.specs.kr_calls.PathTable.{PathUse, path_at}
+use Rattle.law_starts.specs.kr_calls.declared.request.Request.{Request}
 use Rattle.pr_top.specs.kr_tree.Lawful.{AreBytes}
 use Rattle.law_starts.proofs.law_allowed.DecodedLemmas.{decoded-are-givable}
 use Rattle.law_starts.specs.kr_stops.Stopped.{Stopped, image_at}
 use Rattle.law_starts.specs.pt_bind.Tags.{TagTable, with_tag}
 use Rattle.law_starts.specs.pt_bind.declared.slot.Slot.TheVariants.{Exe}
-use Rattle.pt_args.specs.Bases.{working_text}
-use Rattle.pt_args.specs.declared.edit.Edit.{Edit}
-use Rattle.pt_args.specs.declared.edit.Edit.TheVariants.{Cancel, Emulate, Pass, Swap}
+use Rattle.law_starts.specs.pt_args.Bases.{working_text}
+use Rattle.law_starts.specs.pt_args.declared.edit.Edit.{Edit}
+use Rattle.law_starts.specs.pt_args.declared.edit.Edit.TheVariants.{Cancel, Emulate, Pass, Swap}
 use Rattle.law_starts.specs.pt_ident.Identity.{Effect, after_exec, effect, on_memory}
 use Rattle.law_starts.specs.pt_ident.IdentityTable.{IdentityTable, identity_at, starts_as_root}
 use Rattle.law_starts.specs.pt_faker.Reading.{addresses_behind, lists_at}

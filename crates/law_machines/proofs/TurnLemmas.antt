@@ -1,6 +1,6 @@
 -- Whole turns keep both machines together, since each call does; so calm runs come to the same.
 use Rattle.std.proofs.Common.{◌≡◌, ◌≤◌, ◌^◌, ℕ, List, None}
-use Rattle.pt_args.specs.Laws.{ShelvesHoldTheirItems, TextsAreReadBack}
+use Rattle.law_starts.specs.pt_args.Laws.{ShelvesHoldTheirItems, TextsAreReadBack}
 use Rattle.pr_top.specs.kr_view.View.{Row, plain}
 use Rattle.law_starts.specs.law_kept.Bytes.{TableHasBytes}
 use Rattle.law_starts.specs.kr_turns.Run.{Slot, run}

@@ -11,9 +11,9 @@ use Rattle.pr_top.specs.pr_base.declared.path.Last.{Last}
 use Rattle.pr_top.specs.pr_base.declared.path.Last.TheVariants as last
 use Rattle.pr_top.specs.pr_base.declared.path.WalkMode.{WalkMode}
 use Rattle.law_starts.specs.pt_bind.Binding.{host_of}
-use Rattle.pt_args.specs.pt_canon.Canon.{canon_of, canon_result, entry_text, guest_text}
-use Rattle.pt_args.specs.pt_canon.TextWalk.{SeenText, TextSurroundings, look_text, looking_texts, text_walk}
-use Rattle.pt_args.specs.pt_canon.declared.canon.Canon.{Canon}
+use Rattle.law_starts.specs.pt_canon.Canon.{canon_of, canon_result, entry_text, guest_text}
+use Rattle.law_starts.specs.pt_canon.TextWalk.{SeenText, TextSurroundings, look_text, looking_texts, text_walk}
+use Rattle.law_starts.specs.pt_canon.declared.canon.Canon.{Canon}
 use Rattle.pr_top.specs.kr_tree.Lawful.{AreBytes}
 use Rattle.law_starts.proofs.law_allowed.PieceLemmas.{all-append}
 use Rattle.law_starts.specs.law_kept.Bytes.{AreAllBytes}

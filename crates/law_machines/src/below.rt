@@ -1,4 +1,7 @@
 //! What those above name of the crates below.
 
-pub use pr_top::below::{End, Kept, Written, tell};
+pub use pr_top::below::{
+    Answer, CleanSink, CleanSource, End, FileSink, FileSource, Kept, MemSink, MemSource,
+    ReplacingSink, Sink, Source, Which, Written, sources_that_tell_agree, tell,
+};
 pub use pr_top::open;

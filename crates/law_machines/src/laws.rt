@@ -5,7 +5,7 @@ ghost use Rattle.law_machines.specs.Reports.{ListingsTellNodes, ReportsAreAlike}
 ghost use Rattle.law_machines.specs.Turns.{WholeTurnsGoTogether};
 ghost use Rattle.law_machines.specs.Watching.{FakersWatch, NobodyWatches};
 
-use pt_args::laws as shelves;
+use law_starts::below::{shelves_hold_their_items, texts_are_read_back};
 
 /// Where no identity is told, a machine with mounts runs as one that nobody watches.
 pub fn nobody_watches()
@@ -32,8 +32,8 @@ pub fn reports_are_alike<S, T>()
 pub fn whole_turns_go_together<S>()
     ensures { WholeTurnsGoTogether S }
 {
-    shelves::texts_are_read_back();
-    shelves::shelves_hold_their_items();
+    texts_are_read_back();
+    shelves_hold_their_items();
 }
 
 /// A calm run on a kernel with mounts, without an identity, and the run of a plain kernel with a tracer on the same words come to the
@@ -42,8 +42,8 @@ pub fn whole_turns_go_together<S>()
 pub fn machines_agree()
     ensures { MachinesAgree }
 {
-    shelves::texts_are_read_back();
-    shelves::shelves_hold_their_items();
+    texts_are_read_back();
+    shelves_hold_their_items();
 }
 
 /// The same where processes are told an identity: a calm run on a kernel with mounts, with the watcher of identities, and the run of a
@@ -51,6 +51,6 @@ pub fn machines_agree()
 pub fn faked_machines_agree()
     ensures { FakedMachinesAgree }
 {
-    shelves::texts_are_read_back();
-    shelves::shelves_hold_their_items();
+    texts_are_read_back();
+    shelves_hold_their_items();
 }

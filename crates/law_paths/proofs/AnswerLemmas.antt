@@ -1,11 +1,11 @@
 -- A call along paths that the tracer answers itself, where the kernel with mounts answers and writes the same.
 use Rattle.std.proofs.Common.{◌≡◌, ℕ, false, [], Some, sym, ap, subst, ◌∙◌, ℤ}
 use Rattle.std.specs.Option.{unwrap_or}
-use Rattle.pt_args.specs.rv_mem.Actions.{AreEqualUnmarked}
-use Rattle.pt_args.specs.rv_mem.Memory.{Memory}
-use Rattle.pt_args.specs.declared.edit.Edit.{Edit}
+use Rattle.law_plans.specs.rv_mem.Actions.{AreEqualUnmarked}
+use Rattle.law_plans.specs.rv_mem.Memory.{Memory}
+use Rattle.law_stops.specs.pt_args.declared.edit.Edit.{Edit}
 use Rattle.law_stops.specs.pt_results.Notes.{noted, tags_after}
-use Rattle.pt_args.specs.kr_calls.CallTable.{line}
+use Rattle.law_stops.specs.kr_calls.CallTable.{line}
 use Rattle.law_plans.specs.kr_seen.Carrying.{memory_of}
 use Rattle.law_plans.specs.kr_model.State.{Image, Process, State, process}
 use Rattle.law_plans.specs.kr_model.Walks.{seen}

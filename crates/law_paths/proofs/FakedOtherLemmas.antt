@@ -1,11 +1,11 @@
 -- Calls along paths where an identity is told are those without one, and so each call but execve(2) keeps both machines together.
 use Rattle.std.proofs.Common.{◌≡◌, ℕ, true, false, List, Ok, refl, sym, ap, ◌∙◌}
 use Rattle.law_plans.specs.pr_base.declared.path.WalkMode.TheVariants.{Look}
-use Rattle.pt_args.specs.Laws.{ShelvesHoldTheirItems, TextsAreReadBack}
-use Rattle.pt_args.specs.kr_calls.CallTable.{Told, ToldNothing, line}
-use Rattle.pt_args.specs.kr_calls.PathTable.{PathUse, working_directory}
-use Rattle.pt_args.specs.kr_calls.declared.request.Request.{Request}
-use Rattle.pt_args.specs.kr_calls.declared.request.Request.TheVariants as call
+use Rattle.law_stops.specs.pt_args.Laws.{ShelvesHoldTheirItems, TextsAreReadBack}
+use Rattle.law_stops.specs.kr_calls.CallTable.{Told, ToldNothing, line}
+use Rattle.law_stops.specs.kr_calls.PathTable.{PathUse, working_directory}
+use Rattle.law_stops.specs.kr_calls.declared.request.Request.{Request}
+use Rattle.law_stops.specs.kr_calls.declared.request.Request.TheVariants as call
 use Rattle.law_stops.specs.kr_turns.PlainCall.{Came, operated, plain_call}
 use Rattle.law_stops.proofs.kr_turns.PlainLemmas.{no-exec-requested}
 use Rattle.law_plans.specs.pt_faker.Faking.{Faking}

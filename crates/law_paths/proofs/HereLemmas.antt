@@ -4,12 +4,12 @@ use Rattle.std.proofs.Common.{◌≡◌, ◌≤◌, ℕ, Bool, true, false, cond
 use Rattle.std.specs.Prelude.{nat_lt}
 use Rattle.std.specs.Option.{option_map_or}
 use Rattle.std.proofs.lemmas.Bool.Decides.{nat_tests}
-use Rattle.pt_args.specs.rv_mem.Actions.{AreEqualUnmarked}
-use Rattle.pt_args.specs.rv_mem.Layout.{layout_of}
-use Rattle.pt_args.specs.rv_mem.Memory.{Memory}
+use Rattle.law_plans.specs.rv_mem.Actions.{AreEqualUnmarked}
+use Rattle.law_plans.specs.rv_mem.Layout.{layout_of}
+use Rattle.law_plans.specs.rv_mem.Memory.{Memory}
 use Rattle.law_plans.specs.kr_view.View.{plain}
-use Rattle.pt_args.specs.kr_calls.Decoding.{decoding}
-use Rattle.pt_args.specs.kr_calls.declared.request.Request.{Request}
+use Rattle.law_stops.specs.kr_calls.Decoding.{decoding}
+use Rattle.law_stops.specs.kr_calls.declared.request.Request.{Request}
 use Rattle.law_stops.specs.law_allowed.Texts.{LinksHaveTexts}
 use Rattle.law_stops.specs.law_allowed.Calls.{HasTextPaths}
 use Rattle.law_stops.proofs.law_allowed.DecodedLemmas.{decoded-are-givable, decoding-leaves-pages}
@@ -25,7 +25,7 @@ use Rattle.law_stops.specs.kr_steps.Computing.{computed}
 use Rattle.law_stops.specs.kr_turns.Breaking.{decoded_rule, nothing_reached, operated_rule, plain_rule_of}
 use Rattle.law_stops.specs.kr_stops.Stopped.{Stopped}
 use Rattle.law_stops.proofs.kr_turns.PlainLemmas.{no-exec-rule}
-use Rattle.pt_args.specs.pt_canon.TextWalk.{TextSurroundings}
+use Rattle.law_plans.specs.pt_canon.TextWalk.{TextSurroundings}
 use Rattle.law_plans.specs.pt_faker.Stopping.{after_request}
 use Rattle.law_plans.specs.pt_tracer.Planning.{edit_for, texts_at}
 use Rattle.law_plans.specs.pt_tracer.Watched.{Tracing}

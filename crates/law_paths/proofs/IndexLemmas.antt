@@ -6,12 +6,12 @@ use Rattle.law_plans.specs.pr_base.WalkFrame.{may_be_free}
 use Rattle.law_plans.specs.pr_base.declared.errno.Errno.{Errno}
 use Rattle.law_plans.specs.pr_base.declared.path.Last.{Last}
 use Rattle.law_plans.specs.pr_base.declared.path.Last.TheVariants as last
-use Rattle.pt_args.specs.pt_bind.Binding.{index_of}
-use Rattle.pt_args.specs.pt_bind.Tags.{TagTable}
-use Rattle.pt_args.specs.pt_canon.Canon.{canon_result, entry_text, guest_text}
-use Rattle.pt_args.specs.pt_canon.declared.canon.Canon.{Canon}
-use Rattle.pt_args.specs.kr_calls.PathTable.{PathUse, path_at}
-use Rattle.pt_args.specs.kr_calls.declared.request.Request.{Request}
+use Rattle.law_stops.specs.pt_bind.Binding.{index_of}
+use Rattle.law_stops.specs.pt_bind.Tags.{TagTable}
+use Rattle.law_plans.specs.pt_canon.Canon.{canon_result, entry_text, guest_text}
+use Rattle.law_plans.specs.pt_canon.declared.canon.Canon.{Canon}
+use Rattle.law_stops.specs.kr_calls.PathTable.{PathUse, path_at}
+use Rattle.law_stops.specs.kr_calls.declared.request.Request.{Request}
 use Rattle.law_plans.specs.kr_view.View.{Row}
 use Rattle.law_plans.specs.kr_view.Walk.{PlaceTarget}
 use Rattle.law_plans.specs.kr_mounts.Standing.{texts_of}

@@ -1,13 +1,13 @@
 -- Calls along paths, whatever the tracer makes of them.
 use Rattle.std.proofs.Common.{◌≡◌, ℕ, Bool, true, false, List, Option, Some, None, Ok, refl, sym, ap, subst, ◌∙◌, ℤ, pos}
 use Rattle.law_plans.specs.pr_base.declared.path.WalkMode.TheVariants.{LookLink}
-use Rattle.pt_args.specs.Laws.{ShelvesHoldTheirItems, TextsAreReadBack}
-use Rattle.pt_args.specs.declared.edit.Edit.{Edit}
+use Rattle.law_stops.specs.pt_args.Laws.{ShelvesHoldTheirItems, TextsAreReadBack}
+use Rattle.law_stops.specs.pt_args.declared.edit.Edit.{Edit}
 use Rattle.law_stops.specs.pt_results.Answers.{cwd_answer, link_answer}
-use Rattle.pt_args.specs.kr_calls.CallTable.{Told, ToldNothing, NamesHere, line, paths_of}
-use Rattle.pt_args.specs.kr_calls.PathTable.{PathUse, path_at, path_from}
-use Rattle.pt_args.specs.kr_calls.declared.request.Request.{Request}
-use Rattle.pt_args.specs.kr_calls.declared.request.Request.TheVariants as call
+use Rattle.law_stops.specs.kr_calls.CallTable.{Told, ToldNothing, NamesHere, line, paths_of}
+use Rattle.law_stops.specs.kr_calls.PathTable.{PathUse, path_at, path_from}
+use Rattle.law_stops.specs.kr_calls.declared.request.Request.{Request}
+use Rattle.law_stops.specs.kr_calls.declared.request.Request.TheVariants as call
 use Rattle.law_plans.specs.kr_seen.Carrying.{memory_of}
 use Rattle.law_plans.specs.pt_tracer.Planning.{answered}
 use Rattle.law_stops.specs.law_turns.PathCalls.{HasPath, TellsPath}

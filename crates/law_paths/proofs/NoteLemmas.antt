@@ -8,16 +8,16 @@ use Rattle.law_plans.specs.pr_base.declared.errno.Errno.TheVariants.{EEXIST, EIS
 use Rattle.law_plans.specs.pr_base.declared.path.Last.{Last}
 use Rattle.law_plans.specs.pr_base.declared.path.Last.TheVariants as last
 use Rattle.law_plans.specs.pr_base.declared.path.WalkMode.TheVariants.{Look, LookLink}
-use Rattle.pt_args.specs.rv_mem.Actions.{carried_out}
-use Rattle.pt_args.specs.rv_mem.Memory.{Memory}
-use Rattle.pt_args.specs.pt_bind.Tags.{TagTable}
+use Rattle.law_plans.specs.rv_mem.Actions.{carried_out}
+use Rattle.law_plans.specs.rv_mem.Memory.{Memory}
+use Rattle.law_stops.specs.pt_bind.Tags.{TagTable}
 use Rattle.law_plans.specs.pt_ident.Identity.{refusal}
 use Rattle.law_stops.specs.pt_results.Notes.{noted, noted_of}
 use Rattle.law_stops.specs.pt_results.Numbers.{made_number}
-use Rattle.pt_args.specs.kr_calls.Arguments.{has}
-use Rattle.pt_args.specs.kr_calls.PathTable.{PathUse, make_mode, open_mode, working_directory}
-use Rattle.pt_args.specs.kr_calls.declared.request.Request.{Request}
-use Rattle.pt_args.specs.kr_calls.declared.request.Request.TheVariants as call
+use Rattle.law_stops.specs.kr_calls.Arguments.{has}
+use Rattle.law_stops.specs.kr_calls.PathTable.{PathUse, make_mode, open_mode, working_directory}
+use Rattle.law_stops.specs.kr_calls.declared.request.Request.{Request}
+use Rattle.law_stops.specs.kr_calls.declared.request.Request.TheVariants as call
 use Rattle.law_plans.specs.kr_view.View.{Row}
 use Rattle.law_plans.specs.kr_model.FileRows.{excludes}
 use Rattle.law_plans.specs.kr_model.Known.{Known}

@@ -1,11 +1,11 @@
 -- Every call but execve(2) is told of a path, or of none.
 use Rattle.std.proofs.Common.{◌≡◌, ◌⊎◌, inl, inr, true, Ok, Err, refl, sym, subst}
 use Rattle.std.specs.Prelude.{not}
-use Rattle.pt_args.specs.Laws.{ShelvesHoldTheirItems, TextsAreReadBack}
-use Rattle.pt_args.specs.kr_calls.CallTable.{Told, ToldNothing, line}
-use Rattle.pt_args.specs.kr_calls.Decoding.{Decoded}
-use Rattle.pt_args.specs.kr_calls.declared.request.Request.{Request}
-use Rattle.pt_args.specs.kr_calls.declared.request.Request.TheVariants as call
+use Rattle.law_stops.specs.pt_args.Laws.{ShelvesHoldTheirItems, TextsAreReadBack}
+use Rattle.law_stops.specs.kr_calls.CallTable.{Told, ToldNothing, line}
+use Rattle.law_stops.specs.kr_calls.Decoding.{Decoded}
+use Rattle.law_stops.specs.kr_calls.declared.request.Request.{Request}
+use Rattle.law_stops.specs.kr_calls.declared.request.Request.TheVariants as call
 use Rattle.law_stops.specs.law_turns.Pathless.{IsPathless, TellsNothing}
 use Rattle.law_stops.specs.law_turns.PathCalls.{HasPath, TellsPath}
 use Rattle.law_stops.specs.Scene.{asked}

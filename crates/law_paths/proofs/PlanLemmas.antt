@@ -1,19 +1,19 @@
 -- A call along paths of which the tracer makes what its plan says: it is passed, swapped or cancelled as the kernel with mounts has it.
 use Rattle.std.proofs.Common.{◌≡◌, inl, ℕ, Bool, true, Option, Some, None, Ok, sym, ap, subst, ◌∙◌}
 use Rattle.std.specs.Option.{unwrap_or}
-use Rattle.pt_args.specs.rv_mem.Actions.{carried_out}
-use Rattle.pt_args.specs.Edits.{edit_of}
-use Rattle.pt_args.specs.Laws.{ShelvesHoldTheirItems, TextsAreReadBack}
-use Rattle.pt_args.specs.Purposes.{opens}
-use Rattle.pt_args.specs.Walks.{walked_along}
-use Rattle.pt_args.specs.declared.edit.Edit.{Edit}
-use Rattle.pt_args.specs.declared.edit.Edit.TheVariants.{Cancel, Pass}
+use Rattle.law_plans.specs.rv_mem.Actions.{carried_out}
+use Rattle.law_stops.specs.pt_args.Edits.{edit_of}
+use Rattle.law_stops.specs.pt_args.Laws.{ShelvesHoldTheirItems, TextsAreReadBack}
+use Rattle.law_stops.specs.pt_args.Purposes.{opens}
+use Rattle.law_stops.specs.pt_args.Walks.{walked_along}
+use Rattle.law_stops.specs.pt_args.declared.edit.Edit.{Edit}
+use Rattle.law_stops.specs.pt_args.declared.edit.Edit.TheVariants.{Cancel, Pass}
 use Rattle.law_stops.specs.pt_results.Answers.{link_answer}
 use Rattle.law_plans.specs.pr_base.declared.errno.Errno.{Errno}
 use Rattle.law_plans.specs.kr_view.View.{plain}
-use Rattle.pt_args.specs.kr_calls.CallTable.{line}
-use Rattle.pt_args.specs.kr_calls.Decoding.{decoding}
-use Rattle.pt_args.specs.kr_calls.PathTable.{PathUse, path_at}
+use Rattle.law_stops.specs.kr_calls.CallTable.{line}
+use Rattle.law_stops.specs.kr_calls.Decoding.{decoding}
+use Rattle.law_stops.specs.kr_calls.PathTable.{PathUse, path_at}
 use Rattle.law_stops.proofs.law_allowed.RowLemmas.{StaysLike, stays-like}
 use Rattle.law_plans.specs.kr_model.Known.{known}
 use Rattle.law_plans.specs.kr_model.Operation.{operation}

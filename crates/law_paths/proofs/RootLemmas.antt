@@ -11,13 +11,13 @@ use Rattle.law_plans.specs.pr_base.Texts.{Text}
 use Rattle.law_plans.specs.pr_base.WalkFrame.{may_be_free}
 use Rattle.law_plans.specs.pr_base.declared.errno.Errno.{Errno}
 use Rattle.law_plans.proofs.pr_base.PathLemmas.{names_are_parts}
-use Rattle.pt_args.specs.pt_bind.Binding.{names_of}
-use Rattle.pt_args.specs.pt_bind.Tags.{TagTable}
-use Rattle.pt_args.proofs.pt_bind.ByteLemmas.{names_written}
-use Rattle.pt_args.specs.pt_canon.Canon.{canon_result, guest_text}
-use Rattle.pt_args.specs.pt_canon.declared.canon.Canon.{Canon}
-use Rattle.pt_args.specs.kr_calls.PathTable.{PathUse, path_at}
-use Rattle.pt_args.specs.kr_calls.declared.request.Request.{Request}
+use Rattle.law_stops.specs.pt_bind.Binding.{names_of}
+use Rattle.law_stops.specs.pt_bind.Tags.{TagTable}
+use Rattle.law_plans.proofs.pt_bind.ByteLemmas.{names_written}
+use Rattle.law_plans.specs.pt_canon.Canon.{canon_result, guest_text}
+use Rattle.law_plans.specs.pt_canon.declared.canon.Canon.{Canon}
+use Rattle.law_stops.specs.kr_calls.PathTable.{PathUse, path_at}
+use Rattle.law_stops.specs.kr_calls.declared.request.Request.{Request}
 use Rattle.law_plans.specs.kr_tree.declared.place.Host.{Host}
 use Rattle.law_plans.specs.kr_tree.declared.place.Host.TheVariants.{Node, Proc}
 use Rattle.law_plans.specs.kr_tree.declared.place.Place.{Place}

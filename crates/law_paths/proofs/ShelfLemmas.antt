@@ -4,12 +4,12 @@ use Rattle.std.specs.Prelude.{◌||◌, nat_lt}
 use Rattle.std.proofs.lemmas.Bool.Decides.{nat_tests}
 use Rattle.law_plans.specs.pr_base.Paths.{is_absolute}
 use Rattle.law_plans.specs.pr_base.declared.errno.Errno.TheVariants.{ENAMETOOLONG}
-use Rattle.pt_args.specs.rv_mem.Actions.{AreEqualUnmarked}
-use Rattle.pt_args.specs.rv_mem.declared.regs.Regs.{Regs}
-use Rattle.pt_args.specs.Edits.{shelve}
-use Rattle.pt_args.specs.declared.edit.Edit.TheVariants.{Cancel}
-use Rattle.pt_args.specs.kr_calls.Arguments.{number}
-use Rattle.pt_args.specs.kr_calls.PathTable.{PathUse, path_at}
+use Rattle.law_plans.specs.rv_mem.Actions.{AreEqualUnmarked}
+use Rattle.law_plans.specs.rv_mem.declared.regs.Regs.{Regs}
+use Rattle.law_stops.specs.pt_args.Edits.{shelve}
+use Rattle.law_stops.specs.pt_args.declared.edit.Edit.TheVariants.{Cancel}
+use Rattle.law_stops.specs.kr_calls.Arguments.{number}
+use Rattle.law_stops.specs.kr_calls.PathTable.{PathUse, path_at}
 use Rattle.law_plans.specs.kr_calm.Shelf.{has_path, is_usable, stack_pointer}
 use Rattle.law_plans.specs.kr_model.State.{Image, Process}
 use Rattle.law_stops.specs.kr_turns.Breaking.{plain_rule}

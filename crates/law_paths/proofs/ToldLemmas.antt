@@ -2,15 +2,15 @@
 -- of which that is what the kernel with mounts is told is told along.
 use Rattle.std.proofs.Common.{◌≡◌, ◌⊎◌, ℕ, true, refl, sym, ap, subst, ◌∙◌, ℤ}
 use Rattle.law_plans.specs.pr_base.declared.errno.Errno.{Errno}
-use Rattle.pt_args.specs.rv_mem.Memory.{Memory}
-use Rattle.pt_args.specs.rv_mem.Pages.{HoldsBytes}
-use Rattle.pt_args.specs.rv_mem.declared.regs.Regs.{Regs}
+use Rattle.law_plans.specs.rv_mem.Memory.{Memory}
+use Rattle.law_plans.specs.rv_mem.Pages.{HoldsBytes}
+use Rattle.law_plans.specs.rv_mem.declared.regs.Regs.{Regs}
 use Rattle.law_stops.specs.pt_results.Notes.{noted, tags_after}
 use Rattle.law_plans.specs.kr_view.View.{plain}
-use Rattle.pt_args.specs.kr_calls.CallTable.{Told, ToldNothing, line}
-use Rattle.pt_args.specs.kr_calls.Decoding.{decoding}
-use Rattle.pt_args.specs.kr_calls.declared.request.Request.{Request}
-use Rattle.pt_args.specs.kr_calls.declared.request.Request.TheVariants as call
+use Rattle.law_stops.specs.kr_calls.CallTable.{Told, ToldNothing, line}
+use Rattle.law_stops.specs.kr_calls.Decoding.{decoding}
+use Rattle.law_stops.specs.kr_calls.declared.request.Request.{Request}
+use Rattle.law_stops.specs.kr_calls.declared.request.Request.TheVariants as call
 use Rattle.law_stops.specs.law_allowed.Told.{mounts_walked}
 use Rattle.law_stops.proofs.law_allowed.RowLemmas.{StaysLike, stays-like}
 use Rattle.law_plans.specs.kr_seen.Carrying.{memory_of}

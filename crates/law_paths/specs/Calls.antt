@@ -2,9 +2,9 @@
 use Rattle.std.specs.Prelude.{◌≡◌, ℤ, Bool, true, false, not, List, Option, Ok, Err}
 use Rattle.law_plans.specs.pr_base.declared.errno.Errno.{Errno}
 use Rattle.law_plans.specs.kr_view.View.{Row}
-use Rattle.pt_args.specs.kr_calls.Decoding.{Decoded}
-use Rattle.pt_args.specs.kr_calls.declared.request.Request.{Request}
-use Rattle.pt_args.specs.kr_calls.declared.request.Request.TheVariants as call
+use Rattle.law_stops.specs.kr_calls.Decoding.{Decoded}
+use Rattle.law_stops.specs.kr_calls.declared.request.Request.{Request}
+use Rattle.law_stops.specs.kr_calls.declared.request.Request.TheVariants as call
 use Rattle.law_stops.specs.kr_stops.Stopped.{Stopped}
 use Rattle.law_plans.specs.pt_faker.Stopping.{decoded_at}
 use Rattle.law_stops.specs.law_turns.PathCalls.{HasPath}

@@ -1,4 +1,5 @@
 pub use Rattle.law_edits.proofs.pr_base as pr_base
+pub use Rattle.law_edits.proofs.pt_bind as pt_bind
 pub use Rattle.law_places.proofs.kr_seen as kr_seen
 pub use Rattle.law_places.proofs.kr_calm as kr_calm
 pub use Rattle.law_places.proofs.law_walks as law_walks

@@ -3,13 +3,13 @@ use Rattle.std.proofs.Common.{◌≡◌, ℕ, zero, suc, ◌+◌, ◌-◌, ◌*�
 use Rattle.std.proofs.lemmas.Bool.Decides.{nat_tests}
 use Rattle.std.proofs.lemmas.Bool.{or_parts}
 use Rattle.kr_first.specs.pr_base.declared.errno.Errno.{Errno}
-use Rattle.pt_args.specs.rv_mem.Actions.{Action, AreEqualUnmarked, CarriedOut, Done, ReadBytes, carried_out}
-use Rattle.pt_args.specs.rv_mem.Memory.{Memory, after_read}
-use Rattle.pt_args.specs.rv_mem.Pages.{IsPlaced, Pages, any_marked, bytes_from}
-use Rattle.pt_args.proofs.rv_mem.AccessLemmas.{bytes_from-zero}
-use Rattle.pt_args.proofs.rv_mem.ActionLemmas.{flag_stays, reads_alike}
-use Rattle.pt_args.proofs.rv_mem.PagesLemmas.{bytes_from-add}
-use Rattle.pt_args.specs.kr_calls.Expansion.{bytes_with_ends}
+use Rattle.kr_first.specs.rv_mem.Actions.{Action, AreEqualUnmarked, CarriedOut, Done, ReadBytes, carried_out}
+use Rattle.kr_first.specs.rv_mem.Memory.{Memory, after_read}
+use Rattle.kr_first.specs.rv_mem.Pages.{IsPlaced, Pages, any_marked, bytes_from}
+use Rattle.kr_first.proofs.rv_mem.AccessLemmas.{bytes_from-zero}
+use Rattle.kr_first.proofs.rv_mem.ActionLemmas.{flag_stays, reads_alike}
+use Rattle.kr_first.proofs.rv_mem.PagesLemmas.{bytes_from-add}
+use Rattle.kr_first.specs.kr_calls.Expansion.{bytes_with_ends}
 use Rattle.kr_first.specs.kr_exec.Exec.{are_too_big}
 use Rattle.kr_first.specs.kr_exec.Lists.{Trying, at_least_one, behind, env_at, list_at, most_bytes, most_texts, next_address, texts_from}
 use Rattle.kr_first.specs.kr_exec.declared.lists.Lists.{Lists}

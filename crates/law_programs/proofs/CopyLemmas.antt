@@ -3,10 +3,10 @@ use Rattle.std.proofs.Common.{◌≡◌, ℕ, ◌+◌, ◌*◌, ◌%◌, ◌/◌
 use Rattle.std.specs.Prelude.{nat_eq}
 use Rattle.std.proofs.Math.Seq.{drop-append_seam, take-append_seam}
 use Rattle.kr_first.specs.pr_base.Fields.{little_endian}
-use Rattle.pt_args.specs.rv_mem.Memory.{text_of}
-use Rattle.pt_args.specs.rv_mem.Pages.{IsPlaced, Pages, allows_all, bytes_from}
-use Rattle.pt_args.specs.rv_mem.declared.rights.Use.TheVariants.{Read}
-use Rattle.pt_args.proofs.rv_mem.PagesLemmas.{bytes_from-add, length-bytes_from}
+use Rattle.kr_first.specs.rv_mem.Memory.{text_of}
+use Rattle.kr_first.specs.rv_mem.Pages.{IsPlaced, Pages, allows_all, bytes_from}
+use Rattle.kr_first.specs.rv_mem.declared.rights.Use.TheVariants.{Read}
+use Rattle.kr_first.proofs.rv_mem.PagesLemmas.{bytes_from-add, length-bytes_from}
 use Rattle.kr_first.specs.kr_exec.Lists.{most_bytes, next_address}
 use Rattle.law_edits.proofs.RangeLemmas.{part_allowed}
 use Rattle.law_edits.proofs.ReadLemmas.{one-allowed, page-there}

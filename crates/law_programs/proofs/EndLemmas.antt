@@ -4,8 +4,8 @@ use Rattle.std.specs.Bool.{if◌then◌else◌}
 use Rattle.kr_first.specs.pr_base.declared.errno.Errno.{Errno}
 use Rattle.kr_first.specs.pr_base.declared.errno.Errno.TheVariants.{E2BIG, ELOOP, ENOEXEC}
 use Rattle.kr_first.specs.pr_base.declared.path.WalkMode.TheVariants.{Look}
-use Rattle.pt_args.specs.kr_calls.Expansion.{Finding, by_interpreter, by_line, expanded, is_script, is_too_big, new_args, runs}
-use Rattle.pt_args.specs.kr_calls.Scripts.{script_of}
+use Rattle.kr_first.specs.kr_calls.Expansion.{Finding, by_interpreter, by_line, expanded, is_script, is_too_big, new_args, runs}
+use Rattle.kr_first.specs.kr_calls.Scripts.{script_of}
 use Rattle.kr_first.specs.kr_exec.Finding.{program_walk}
 use Rattle.kr_first.specs.kr_exec.Interpreters.{if_args_fit, interpreters, paths_behind, paths_by_line, walks_reach}
 use Rattle.kr_first.specs.kr_tree.declared.place.Place.{Place}

@@ -4,8 +4,8 @@ use Rattle.std.specs.Bool.{if◌then◌else◌}
 use Rattle.std.specs.Option.{option_map_or}
 use Rattle.kr_first.specs.pr_base.declared.errno.Errno.{Errno}
 use Rattle.kr_first.specs.pr_base.declared.errno.Errno.TheVariants.{ENOENT, ENOMEM}
-use Rattle.pt_args.specs.rv_mem.Actions.{CarriedOut, Done, carried_out}
-use Rattle.pt_args.specs.rv_mem.Memory.{Memory}
+use Rattle.kr_first.specs.rv_mem.Actions.{CarriedOut, Done, carried_out}
+use Rattle.kr_first.specs.rv_mem.Memory.{Memory}
 use Rattle.kr_first.specs.elf_load.Image.{first_regs, image_exceeds, image_memory, program_break}
 use Rattle.kr_first.specs.pt_bind.Tags.{TagTable}
 use Rattle.law_edits.specs.pt_script.declared.expansion.Expanded.{Expanded}

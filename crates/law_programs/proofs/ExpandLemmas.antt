@@ -5,8 +5,8 @@ use Rattle.kr_first.specs.pr_base.declared.errno.Errno.TheVariants.{E2BIG, ENOEX
 use Rattle.kr_first.specs.pt_bind.Tags.{TagTable}
 use Rattle.law_edits.specs.pt_script.Programs as tracer
 use Rattle.law_edits.specs.pt_script.declared.program.Program.{Program}
-use Rattle.pt_args.specs.kr_calls.Expansion.{Expanded, Finding, Onward, by_interpreter, by_line, expanded, is_script, is_too_big, new_args, runs}
-use Rattle.pt_args.specs.kr_calls.Scripts.{script_of}
+use Rattle.kr_first.specs.kr_calls.Expansion.{Expanded, Finding, Onward, by_interpreter, by_line, expanded, is_script, is_too_big, new_args, runs}
+use Rattle.kr_first.specs.kr_calls.Scripts.{script_of}
 use Rattle.kr_first.specs.kr_tree.declared.place.Place.{Place}
 use Rattle.kr_first.specs.kr_view.Answers as answers
 use Rattle.kr_first.specs.kr_view.View.{Row}

@@ -18,10 +18,10 @@ use Rattle.kr_first.proofs.pr_base.WalkLemmas.{walk-none}
 use Rattle.kr_first.specs.pt_bind.Binding.{index_of, names_of}
 use Rattle.kr_first.specs.pt_bind.Tags.{TagTable}
 use Rattle.kr_first.proofs.pt_bind.ByteLemmas.{names_written}
-use Rattle.pt_args.specs.Walks.{and_then}
-use Rattle.pt_args.specs.pt_canon.Canon.{canon_of, canon_result}
-use Rattle.pt_args.specs.pt_canon.TextWalk.{TextSurroundings, looking_texts, text_walk}
-use Rattle.pt_args.specs.pt_canon.declared.canon.Canon.{Canon}
+use Rattle.law_edits.specs.pt_args.Walks.{and_then}
+use Rattle.law_edits.specs.pt_canon.Canon.{canon_of, canon_result}
+use Rattle.law_edits.specs.pt_canon.TextWalk.{TextSurroundings, looking_texts, text_walk}
+use Rattle.law_edits.specs.pt_canon.declared.canon.Canon.{Canon}
 use Rattle.law_edits.specs.pt_script.Programs.{base_from, canon_from, or_lost, program_from, program_in}
 use Rattle.law_edits.specs.pt_script.declared.program.Program.{Program}
 use Rattle.kr_first.specs.kr_inode.declared.user.User.{User}

@@ -4,14 +4,14 @@ use Rattle.std.specs.Prelude.{nat_eq}
 use Rattle.std.specs.List.{All}
 use Rattle.std.proofs.lemmas.Bool.{eq-eqb, ne_eqb}
 use Rattle.std.proofs.lemmas.List.Elements.{All-head, All-tail}
-use Rattle.pt_args.specs.rv_mem.Memory.{text_after, text_of}
-use Rattle.pt_args.specs.rv_mem.Pages.{IsPlaced, IsWhole, Pages, allows, allows_all, byte_at, bytes_from, written}
-use Rattle.pt_args.specs.rv_mem.declared.rights.Use.TheVariants.{Read}
-use Rattle.pt_args.proofs.rv_mem.AccessLemmas.{contains_allowed}
-use Rattle.pt_args.proofs.rv_mem.AddressLemmas.{allows-written, byte_at-written_in, byte_at-written_other}
-use Rattle.pt_args.proofs.rv_mem.SpaceLemmas.{IsPlaced-written, IsWhole-written}
-use Rattle.pt_args.specs.Laws.{ShelvesHoldTheirItems, StandBetween, poked, room_of}
-use Rattle.pt_args.specs.Shelving.{address_below, shelved}
+use Rattle.kr_first.specs.rv_mem.Memory.{text_after, text_of}
+use Rattle.kr_first.specs.rv_mem.Pages.{IsPlaced, IsWhole, Pages, allows, allows_all, byte_at, bytes_from, written}
+use Rattle.kr_first.specs.rv_mem.declared.rights.Use.TheVariants.{Read}
+use Rattle.kr_first.proofs.rv_mem.AccessLemmas.{contains_allowed}
+use Rattle.kr_first.proofs.rv_mem.AddressLemmas.{allows-written, byte_at-written_in, byte_at-written_other}
+use Rattle.kr_first.proofs.rv_mem.SpaceLemmas.{IsPlaced-written, IsWhole-written}
+use Rattle.law_edits.specs.pt_args.Laws.{ShelvesHoldTheirItems, StandBetween, poked, room_of}
+use Rattle.law_edits.specs.pt_args.Shelving.{address_below, shelved}
 
 -- ---- addresses on a shelf
 

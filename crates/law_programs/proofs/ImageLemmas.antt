@@ -5,8 +5,8 @@ use Rattle.std.specs.Prelude.{nat_lt}
 use Rattle.std.specs.List.{All}
 use Rattle.std.proofs.lemmas.Bool.Decides.{nat_tests}
 use Rattle.std.proofs.lemmas.List.Elements.{All-head, All-tail}
-use Rattle.pt_args.specs.rv_mem.Pages.{IsPlaced, IsWhole, Pages, mapped}
-use Rattle.pt_args.proofs.rv_mem.SpaceLemmas.{IsPlaced-empty, IsPlaced-mapped, IsPlaced-written, IsWhole-empty, IsWhole-mapped, IsWhole-written}
+use Rattle.kr_first.specs.rv_mem.Pages.{IsPlaced, IsWhole, Pages, mapped}
+use Rattle.kr_first.proofs.rv_mem.SpaceLemmas.{IsPlaced-empty, IsPlaced-mapped, IsPlaced-written, IsWhole-empty, IsWhole-mapped, IsWhole-written}
 use Rattle.kr_first.specs.elf_read.Plans.{IsSound, plan_of, planned}
 use Rattle.kr_first.specs.elf_read.Rules.{first_broken}
 use Rattle.kr_first.specs.elf_read.declared.plan.Segment.{Segment}

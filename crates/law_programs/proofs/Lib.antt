@@ -1,4 +1,5 @@
 pub use Rattle.kr_first.proofs.pr_base as pr_base
+pub use Rattle.kr_first.proofs.rv_mem as rv_mem
 pub use Rattle.kr_first.proofs.kr_tree as kr_tree
 pub use Rattle.kr_first.proofs.law_lawful as law_lawful
 pub use Rattle.kr_first.proofs.law_allowed as law_allowed

@@ -5,14 +5,14 @@ use Rattle.std.proofs.lemmas.Bool.Decides.{nat_tests}
 use Rattle.kr_first.specs.pr_base.Fields.{little_endian}
 use Rattle.kr_first.specs.pr_base.declared.errno.Errno.{Errno}
 use Rattle.kr_first.specs.pr_base.declared.errno.Errno.TheVariants.{E2BIG, EFAULT}
-use Rattle.pt_args.specs.rv_mem.Actions.{CarriedOut, Done, ReadBytes, allows_uses, carried_out}
-use Rattle.pt_args.specs.rv_mem.Memory.{Memory, after_read, text_of, text_reach}
-use Rattle.pt_args.specs.rv_mem.Pages.{allows_all}
-use Rattle.pt_args.specs.rv_mem.declared.fault.TextFault.{TextFault}
-use Rattle.pt_args.specs.rv_mem.declared.fault.TextFault.TheVariants as fault
-use Rattle.pt_args.specs.rv_mem.declared.rights.Use.TheVariants.{Read}
-use Rattle.pt_args.specs.kr_calls.Expansion.{bytes_with_ends}
-use Rattle.pt_args.proofs.kr_calls.TextLemmas.{chosen, read_text_is}
+use Rattle.kr_first.specs.rv_mem.Actions.{CarriedOut, Done, ReadBytes, allows_uses, carried_out}
+use Rattle.kr_first.specs.rv_mem.Memory.{Memory, after_read, text_of, text_reach}
+use Rattle.kr_first.specs.rv_mem.Pages.{allows_all}
+use Rattle.kr_first.specs.rv_mem.declared.fault.TextFault.{TextFault}
+use Rattle.kr_first.specs.rv_mem.declared.fault.TextFault.TheVariants as fault
+use Rattle.kr_first.specs.rv_mem.declared.rights.Use.TheVariants.{Read}
+use Rattle.kr_first.specs.kr_calls.Expansion.{bytes_with_ends}
+use Rattle.law_edits.proofs.kr_calls.TextLemmas.{chosen, read_text_is}
 use Rattle.kr_first.specs.kr_exec.Lists.{Trying, address_at, and_then, at_least_one, behind, env_at, if_it_fits, list_at, most_bytes, most_texts, next_address, text_at, text_within, texts_from}
 use Rattle.kr_first.specs.kr_exec.declared.lists.Lists.{Lists}
 use Rattle.kr_first.proofs.kr_exec.ListLemmas.{and_then_is, at_address, at_end, at_text, by_address, done, entry, fits, goes_on, on_reply}

@@ -3,16 +3,16 @@ use Rattle.std.specs.Prelude.{take}
 use Rattle.std.proofs.Common.{◌≡◌, ◌≤◌, ℕ, zero, suc, ◌-◌, Bool, true, false, cond, List, Option, Some, None, Result, Ok, Err, arith, sym, ap, subst, ◌∙◌, refl}
 use Rattle.kr_first.specs.pr_base.declared.errno.Errno.{Errno}
 use Rattle.kr_first.specs.pr_base.declared.errno.Errno.TheVariants.{E2BIG, ENOEXEC, ELOOP}
-use Rattle.pt_args.proofs.rv_mem.ActionLemmas.{reads_alike}
-use Rattle.pt_args.specs.Walks as texts
-use Rattle.pt_args.specs.pt_canon.TextWalk.{TextSurroundings}
-use Rattle.pt_args.specs.pt_canon.declared.canon.Canon.{Canon}
+use Rattle.kr_first.proofs.rv_mem.ActionLemmas.{reads_alike}
+use Rattle.law_edits.specs.pt_args.Walks as texts
+use Rattle.law_edits.specs.pt_canon.TextWalk.{TextSurroundings}
+use Rattle.law_edits.specs.pt_canon.declared.canon.Canon.{Canon}
 use Rattle.law_edits.specs.pt_script.Expanding.{expanded_from, shown_result}
 use Rattle.law_edits.specs.pt_script.Programs.{head_size, program_from, program_in, programs}
 use Rattle.law_edits.specs.pt_script.declared.expansion.Expanded.{Expanded as Shown}
 use Rattle.law_edits.specs.pt_script.declared.program.Program.{Program}
-use Rattle.pt_args.specs.kr_calls.Expansion.{Expanded, Finding, Onward, by_interpreter, by_line, bytes_with_ends, expanded, is_script, is_too_big, most_scripts, new_args, runs}
-use Rattle.pt_args.specs.kr_calls.Scripts.{script_of}
+use Rattle.kr_first.specs.kr_calls.Expansion.{Expanded, Finding, Onward, by_interpreter, by_line, bytes_with_ends, expanded, is_script, is_too_big, most_scripts, new_args, runs}
+use Rattle.kr_first.specs.kr_calls.Scripts.{script_of}
 use Rattle.kr_first.specs.kr_exec.Lists.{lists_at}
 use Rattle.kr_first.specs.kr_exec.declared.lists.Lists.{Lists}
 use Rattle.law_programs.specs.Executing.{PlainExecutionsAgree}

@@ -9,11 +9,11 @@ use Rattle.kr_first.specs.pt_bind.Tags.{TagTable}
 use Rattle.law_edits.specs.pt_script.Expanding.{shown_result}
 use Rattle.law_edits.specs.pt_script.Programs as tracer
 use Rattle.law_edits.specs.pt_script.declared.program.Program.{Program}
-use Rattle.pt_args.specs.Walks as texts
+use Rattle.law_edits.specs.pt_args.Walks as texts
 use Rattle.kr_first.specs.elf_read.Rules.{first_broken}
 use Rattle.kr_first.specs.elf_read.declared.fault.ElfFault.{ElfFault}
-use Rattle.pt_args.specs.kr_calls.Expansion.{Expanded, Finding, Onward, by_interpreter, by_line, bytes_with_ends, expanded, is_script, is_too_big, most_scripts, new_args, runs}
-use Rattle.pt_args.specs.kr_calls.Scripts.{script_of}
+use Rattle.kr_first.specs.kr_calls.Expansion.{Expanded, Finding, Onward, by_interpreter, by_line, bytes_with_ends, expanded, is_script, is_too_big, most_scripts, new_args, runs}
+use Rattle.kr_first.specs.kr_calls.Scripts.{script_of}
 use Rattle.kr_first.specs.kr_tree.declared.place.Host.{Host}
 use Rattle.kr_first.specs.kr_tree.declared.place.Host.TheVariants.{Node, Proc}
 use Rattle.kr_first.specs.kr_tree.declared.place.Place.{Place}

@@ -5,9 +5,9 @@ use Rattle.std.proofs.lemmas.Bool.Decides.{nat_tests}
 use Rattle.std.proofs.lemmas.List.Elements.{All-cons, All-tail}
 use Rattle.kr_first.specs.pr_base.declared.errno.Errno.{Errno}
 use Rattle.kr_first.specs.pr_base.declared.errno.Errno.TheVariants.{E2BIG, ELOOP}
-use Rattle.pt_args.specs.kr_calls.Expansion.{Expanded, Finding, Onward, argument_of, by_interpreter, by_line, bytes_with_ends, expanded, is_script, is_too_big, most_scripts, new_args, runs}
-use Rattle.pt_args.specs.kr_calls.Scripts.{script_of}
-use Rattle.pt_args.specs.Laws.{IsPathText}
+use Rattle.kr_first.specs.kr_calls.Expansion.{Expanded, Finding, Onward, argument_of, by_interpreter, by_line, bytes_with_ends, expanded, is_script, is_too_big, most_scripts, new_args, runs}
+use Rattle.kr_first.specs.kr_calls.Scripts.{script_of}
+use Rattle.law_edits.specs.pt_args.Laws.{IsPathText}
 use Rattle.law_edits.specs.pt_tracer.ScriptEdit.{texts_room}
 use Rattle.law_programs.proofs.LineLemmas.{IsShortLine, line-words, none}
 

@@ -5,16 +5,16 @@ use Rattle.std.proofs.lemmas.Bool.Decides.{nat_tests}
 use Rattle.std.proofs.lemmas.List.{length-drop}
 use Rattle.std.proofs.lemmas.Bool.{or_parts}
 use Rattle.kr_first.specs.pr_base.declared.errno.Errno.TheVariants.{EFAULT}
-use Rattle.pt_args.specs.rv_mem.Actions.{Done, ReadBytes, allows_uses, carried_out}
-use Rattle.pt_args.specs.rv_mem.Memory.{Memory}
-use Rattle.pt_args.specs.rv_mem.Pages.{Pages, bytes_from}
-use Rattle.pt_args.specs.rv_mem.declared.rights.Use.TheVariants.{Read}
-use Rattle.pt_args.proofs.rv_mem.ActionLemmas.{reads_alike}
-use Rattle.pt_args.specs.Bases.{working_text}
-use Rattle.pt_args.specs.Laws.{ShelvesHoldTheirItems, poked}
+use Rattle.kr_first.specs.rv_mem.Actions.{Done, ReadBytes, allows_uses, carried_out}
+use Rattle.kr_first.specs.rv_mem.Memory.{Memory}
+use Rattle.kr_first.specs.rv_mem.Pages.{Pages, bytes_from}
+use Rattle.kr_first.specs.rv_mem.declared.rights.Use.TheVariants.{Read}
+use Rattle.kr_first.proofs.rv_mem.ActionLemmas.{reads_alike}
+use Rattle.law_edits.specs.pt_args.Bases.{working_text}
+use Rattle.law_edits.specs.pt_args.Laws.{ShelvesHoldTheirItems, poked}
 use Rattle.law_edits.specs.pt_faker.Reading.{addresses_behind}
 use Rattle.law_edits.specs.pt_tracer.ScriptEdit.{put_texts}
-use Rattle.pt_args.specs.kr_calls.Expansion.{bytes_with_ends}
+use Rattle.kr_first.specs.kr_calls.Expansion.{bytes_with_ends}
 use Rattle.kr_first.specs.kr_exec.Lists.{at_least_one, lists_at, next_address}
 use Rattle.law_programs.proofs.LimitLemmas.{lists_fit}
 use Rattle.law_programs.specs.Lists.{AreEntries, IsList, IsListAt}

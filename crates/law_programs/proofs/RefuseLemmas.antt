@@ -11,12 +11,12 @@ use Rattle.kr_first.specs.pr_base.declared.errno.Errno.TheVariants.{EACCES, ENOE
 use Rattle.kr_first.specs.pr_base.declared.path.WalkMode.TheVariants.{Look}
 use Rattle.kr_first.proofs.pr_base.AlikeLemmas.{alike_some}
 use Rattle.kr_first.proofs.pr_base.WalkLemmas.{walk-none}
-use Rattle.pt_args.specs.rv_mem.Actions.{CarriedOut, Done, carried_out}
-use Rattle.pt_args.specs.rv_mem.Memory.{Memory}
+use Rattle.kr_first.specs.rv_mem.Actions.{CarriedOut, Done, carried_out}
+use Rattle.kr_first.specs.rv_mem.Memory.{Memory}
 use Rattle.kr_first.specs.pt_bind.Tags.{TagTable}
-use Rattle.pt_args.specs.pt_canon.Canon.{canon_result}
-use Rattle.pt_args.specs.pt_canon.TextWalk.{TextSurroundings, text_walk}
-use Rattle.pt_args.specs.pt_canon.declared.canon.Canon.{Canon}
+use Rattle.law_edits.specs.pt_canon.Canon.{canon_result}
+use Rattle.law_edits.specs.pt_canon.TextWalk.{TextSurroundings, text_walk}
+use Rattle.law_edits.specs.pt_canon.declared.canon.Canon.{Canon}
 use Rattle.law_edits.specs.pt_script.Programs.{program_from}
 use Rattle.law_edits.specs.pt_script.declared.program.Program.{Program as TracedProgram}
 use Rattle.kr_first.specs.kr_tree.declared.place.Place.{Place}

@@ -6,21 +6,21 @@ use Rattle.std.proofs.lemmas.List.{length-append, length-drop, length-take}
 use Rattle.std.proofs.Math.Seq.{take-append_seam}
 use Rattle.kr_first.specs.pr_base.declared.errno.Errno.{Errno}
 use Rattle.kr_first.specs.pr_base.declared.errno.Errno.TheVariants.{E2BIG, EFAULT, ENAMETOOLONG}
-use Rattle.pt_args.specs.rv_mem.Actions.{Done, ReadBytes, allows_uses, carried_out}
-use Rattle.pt_args.specs.rv_mem.Memory.{Memory}
-use Rattle.pt_args.specs.rv_mem.declared.rights.Use.TheVariants.{Read}
-use Rattle.pt_args.specs.pt_canon.TextWalk.{TextSurroundings}
-use Rattle.pt_args.specs.pt_canon.declared.canon.Canon.{Canon}
+use Rattle.kr_first.specs.rv_mem.Actions.{Done, ReadBytes, allows_uses, carried_out}
+use Rattle.kr_first.specs.rv_mem.Memory.{Memory}
+use Rattle.kr_first.specs.rv_mem.declared.rights.Use.TheVariants.{Read}
+use Rattle.law_edits.specs.pt_canon.TextWalk.{TextSurroundings}
+use Rattle.law_edits.specs.pt_canon.declared.canon.Canon.{Canon}
 use Rattle.kr_first.specs.pr_base.Peeks.{Peeked}
 use Rattle.kr_first.proofs.law_allowed.RowLemmas.{read-count}
-use Rattle.pt_args.specs.kr_calls.Expansion.{most_scripts}
-use Rattle.pt_args.specs.kr_calls.Expansion.{Expanded as Ended}
+use Rattle.kr_first.specs.kr_calls.Expansion.{most_scripts}
+use Rattle.kr_first.specs.kr_calls.Expansion.{Expanded as Ended}
 use Rattle.kr_first.specs.kr_exec.Lists.{next_address}
-use Rattle.pt_args.specs.Bases.{working_text}
-use Rattle.pt_args.specs.Laws.{IsPathText}
-use Rattle.pt_args.specs.Walks.{and_then}
-use Rattle.pt_args.specs.declared.edit.Edit.{Edit}
-use Rattle.pt_args.specs.declared.edit.Edit.TheVariants.{Cancel}
+use Rattle.law_edits.specs.pt_args.Bases.{working_text}
+use Rattle.law_edits.specs.pt_args.Laws.{IsPathText}
+use Rattle.law_edits.specs.pt_args.Walks.{and_then}
+use Rattle.law_edits.specs.pt_args.declared.edit.Edit.{Edit}
+use Rattle.law_edits.specs.pt_args.declared.edit.Edit.TheVariants.{Cancel}
 use Rattle.law_edits.specs.pt_faker.Reading.{addresses_behind}
 use Rattle.law_edits.specs.pt_script.Expanding.{command_of, ends_of, expanded_from, shown, shown_result}
 use Rattle.law_edits.specs.pt_script.Programs.{base_from, canon_from, head_size, program_from, program_in, programs}

@@ -4,7 +4,7 @@ use Rattle.std.proofs.Common.{◌≡◌, ℕ, ◌&&◌, List, ◌∷◌, refl, s
 use Rattle.std.specs.Option.{option_and_then, option_map_or}
 use Rattle.std.specs.Prelude.{map as map_list, sum}
 use Rattle.kr_first.specs.pr_base.declared.path.WalkMode.TheVariants.{Look}
-use Rattle.pt_args.specs.rv_mem.Layout.{Layout}
+use Rattle.kr_first.specs.rv_mem.Layout.{Layout}
 use Rattle.kr_first.specs.kr_inode.declared.user.User.{User}
 use Rattle.kr_first.specs.kr_inode.declared.user.Right.TheVariants.{Search}
 use Rattle.kr_first.specs.kr_tree.declared.place.Host.{Host}

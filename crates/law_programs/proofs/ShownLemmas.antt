@@ -5,7 +5,7 @@ use Rattle.std.specs.Prelude.{take}
 use Rattle.kr_first.specs.pr_base.declared.errno.Errno.{Errno}
 use Rattle.kr_first.specs.pr_base.declared.errno.Errno.TheVariants.{E2BIG, EACCES}
 use Rattle.kr_first.specs.pr_base.declared.path.WalkMode.TheVariants.{Look}
-use Rattle.pt_args.specs.kr_calls.Expansion.{Expanded, Finding, bytes_with_ends, expanded, most_scripts}
+use Rattle.kr_first.specs.kr_calls.Expansion.{Expanded, Finding, bytes_with_ends, expanded, most_scripts}
 use Rattle.kr_first.specs.kr_tree.declared.place.Place.{Place}
 use Rattle.kr_first.specs.kr_view.Answers.{told}
 use Rattle.kr_first.specs.kr_view.Component.{Surroundings}

@@ -7,14 +7,14 @@ use Rattle.std.proofs.lemmas.Bool.Decides.{nat_tests}
 use Rattle.std.proofs.lemmas.List.Elements.{All-head, All-tail}
 use Rattle.std.proofs.lemmas.Nat.{from_le_bytes-to_le_bytes_8}
 use Rattle.kr_first.specs.pr_base.Fields.{little_endian}
-use Rattle.pt_args.specs.rv_mem.Memory.{text_of}
-use Rattle.pt_args.specs.rv_mem.Pages.{IsPlaced, IsWhole, Pages, allows, allows_all, bytes_from}
-use Rattle.pt_args.specs.rv_mem.declared.rights.Use.TheVariants.{Read}
-use Rattle.pt_args.proofs.rv_mem.PagesLemmas.{length-bytes_from}
+use Rattle.kr_first.specs.rv_mem.Memory.{text_of}
+use Rattle.kr_first.specs.rv_mem.Pages.{IsPlaced, IsWhole, Pages, allows, allows_all, bytes_from}
+use Rattle.kr_first.specs.rv_mem.declared.rights.Use.TheVariants.{Read}
+use Rattle.kr_first.proofs.rv_mem.PagesLemmas.{length-bytes_from}
 use Rattle.kr_first.specs.kr_exec.Lists.{most_bytes}
-use Rattle.pt_args.specs.Laws.{IsPathText, ShelvesHoldTheirItems, poked, room_of}
-use Rattle.pt_args.specs.Shelving.{address_below, shelved, with_item, with_zero}
-use Rattle.pt_args.specs.declared.shelf.Shelf.{Shelf}
+use Rattle.law_edits.specs.pt_args.Laws.{IsPathText, ShelvesHoldTheirItems, poked, room_of}
+use Rattle.law_edits.specs.pt_args.Shelving.{address_below, shelved, with_item, with_zero}
+use Rattle.law_edits.specs.pt_args.declared.shelf.Shelf.{Shelf}
 use Rattle.law_edits.specs.pt_tracer.ScriptEdit.{addresses_of, list_item, script_room, texts_room, with_texts}
 use Rattle.law_edits.proofs.ReadLemmas.{page-there}
 use Rattle.law_programs.specs.Lists.{AreEntries, IsEnd, IsEntry, IsList, address_in}

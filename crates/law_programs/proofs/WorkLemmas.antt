@@ -3,7 +3,7 @@ use Rattle.std.proofs.Common.{◌≡◌, ◌||◌, ℕ, true, false, List, Some,
 use Rattle.std.specs.Option.{option_and_then, option_map}
 use Rattle.kr_first.specs.pr_base.Paths.{text_of}
 use Rattle.kr_first.specs.pr_base.Texts.{Text}
-use Rattle.pt_args.specs.Bases.{tagged_text, working_text}
+use Rattle.law_edits.specs.pt_args.Bases.{tagged_text, working_text}
 use Rattle.kr_first.specs.pt_bind.Binding.{guest_of}
 use Rattle.kr_first.specs.pt_bind.Tags.{TagTable, tag_of}
 use Rattle.kr_first.specs.pt_bind.declared.slot.Slot.TheVariants as slot

@@ -1,7 +1,7 @@
 -- What two ways of finding programs come to, where both are refused alike or end alike.
 use Rattle.std.specs.Prelude.{◌≡◌, Result, Ok, Err}
 use Rattle.kr_first.specs.pr_base.declared.errno.Errno.{Errno}
-use Rattle.pt_args.specs.kr_calls.Expansion.{Expanded}
+use Rattle.kr_first.specs.kr_calls.Expansion.{Expanded}
 
 -- the same error, or values that are alike
 pub data ResultsAlike {A B : Type 0} (R : A → B → Type 0) : Result A Errno → Result B Errno → Type 0 where

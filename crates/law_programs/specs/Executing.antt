@@ -2,12 +2,12 @@
 use Rattle.std.specs.Prelude.{◌≡◌, ℕ, false, List, Option, Some, Result, Ok, Err}
 use Rattle.kr_first.specs.pr_base.declared.errno.Errno.{Errno}
 use Rattle.kr_first.specs.pr_base.declared.path.WalkMode.TheVariants.{Look}
-use Rattle.pt_args.specs.rv_mem.Actions.{AreEqualUnmarked, CarriedOut, carried_out}
-use Rattle.pt_args.specs.rv_mem.Memory.{Memory}
+use Rattle.kr_first.specs.rv_mem.Actions.{AreEqualUnmarked, CarriedOut, carried_out}
+use Rattle.kr_first.specs.rv_mem.Memory.{Memory}
 use Rattle.kr_first.specs.pt_bind.Tags.{TagTable}
 use Rattle.law_edits.specs.pt_script.Expanding.{expanded_from}
 use Rattle.law_edits.specs.pt_script.declared.expansion.Expanded.{Expanded}
-use Rattle.pt_args.specs.kr_calls.Expansion.{bytes_with_ends}
+use Rattle.kr_first.specs.kr_calls.Expansion.{bytes_with_ends}
 use Rattle.kr_first.specs.kr_tree.declared.place.Host.{Host}
 use Rattle.kr_first.specs.kr_tree.declared.place.Place.{Place}
 use Rattle.kr_first.specs.kr_view.View.{Row, plain}

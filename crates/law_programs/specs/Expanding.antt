@@ -4,7 +4,7 @@ use Rattle.kr_first.specs.pr_base.declared.errno.Errno.{Errno}
 use Rattle.kr_first.specs.pt_bind.Tags.{TagTable}
 use Rattle.law_edits.specs.pt_script.Programs as tracer
 use Rattle.law_edits.specs.pt_script.declared.program.Program.{Program}
-use Rattle.pt_args.specs.kr_calls.Expansion.{Expanded, Finding, expanded}
+use Rattle.kr_first.specs.kr_calls.Expansion.{Expanded, Finding, expanded}
 use Rattle.kr_first.specs.kr_tree.declared.place.Place.{Place}
 use Rattle.kr_first.specs.kr_view.Answers.{told}
 use Rattle.kr_first.specs.kr_view.View.{Row}

@@ -6,7 +6,7 @@ use Rattle.kr_first.specs.pr_base.declared.errno.Errno.{Errno}
 use Rattle.kr_first.specs.pr_base.declared.path.WalkMode.TheVariants.{Look}
 use Rattle.kr_first.specs.pt_bind.Binding.{index_of}
 use Rattle.kr_first.specs.pt_bind.Tags.{TagTable}
-use Rattle.pt_args.specs.pt_canon.TextWalk.{TextSurroundings}
+use Rattle.law_edits.specs.pt_canon.TextWalk.{TextSurroundings}
 use Rattle.law_edits.specs.pt_script.Programs.{program_from}
 use Rattle.law_edits.specs.pt_script.declared.program.Program.{Program}
 use Rattle.kr_first.specs.kr_tree.declared.place.Place.{Place}

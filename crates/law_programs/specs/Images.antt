@@ -1,7 +1,7 @@
 -- What a first process computes on.
 use Rattle.std.specs.FinMap as map
 use Rattle.std.specs.Prelude.{◌≤◌}
-use Rattle.pt_args.specs.rv_mem.Pages.{IsPlaced, IsWhole}
+use Rattle.kr_first.specs.rv_mem.Pages.{IsPlaced, IsWhole}
 use Rattle.law_edits.specs.kr_model.MemoryRows.{process_pages}
 use Rattle.law_edits.specs.kr_model.State.{Image}
 

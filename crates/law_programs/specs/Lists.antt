@@ -1,11 +1,11 @@
 -- A list of texts as it stands in a memory: the addresses of its texts, eight bytes each, and behind them the address 0.
 use Rattle.std.specs.Prelude.{◌≡◌, ℕ, ◌+◌, ◌-◌, ◌*◌, ◌≤◌, ◌⊎◌, true, false, nat_eq, List, [], ◌∷◌, length, Ok}
 use Rattle.kr_first.specs.pr_base.Fields.{little_endian}
-use Rattle.pt_args.specs.rv_mem.Actions.{AreEqualUnmarked, carried_out}
-use Rattle.pt_args.specs.rv_mem.Memory.{Memory, text_of}
-use Rattle.pt_args.specs.rv_mem.Pages.{IsPlaced, Pages, allows_all, bytes_from}
-use Rattle.pt_args.specs.rv_mem.declared.rights.Use.TheVariants.{Read}
-use Rattle.pt_args.specs.kr_calls.Expansion.{bytes_with_ends}
+use Rattle.kr_first.specs.rv_mem.Actions.{AreEqualUnmarked, carried_out}
+use Rattle.kr_first.specs.rv_mem.Memory.{Memory, text_of}
+use Rattle.kr_first.specs.rv_mem.Pages.{IsPlaced, Pages, allows_all, bytes_from}
+use Rattle.kr_first.specs.rv_mem.declared.rights.Use.TheVariants.{Read}
+use Rattle.kr_first.specs.kr_calls.Expansion.{bytes_with_ends}
 use Rattle.kr_first.specs.kr_exec.Lists.{at_least_one, lists_at, most_bytes, most_texts, next_address}
 use Rattle.kr_first.specs.kr_exec.declared.lists.Lists.{Lists}
 

@@ -5,7 +5,7 @@ use Rattle.kr_first.specs.pr_base.declared.errno.Errno.{Errno}
 use Rattle.kr_first.specs.pt_bind.Tags.{TagTable}
 use Rattle.law_edits.specs.pt_script.Expanding.{expanded_from}
 use Rattle.law_edits.specs.pt_script.declared.expansion.Expanded.{Expanded}
-use Rattle.pt_args.specs.kr_calls.Expansion.{bytes_with_ends}
+use Rattle.kr_first.specs.kr_calls.Expansion.{bytes_with_ends}
 use Rattle.kr_first.specs.kr_tree.declared.place.Place.{Place}
 use Rattle.kr_first.specs.kr_view.Answers.{told}
 use Rattle.kr_first.specs.kr_view.Component.{Surroundings}

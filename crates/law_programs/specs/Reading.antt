@@ -1,17 +1,17 @@
 -- The lists that the plain kernel reads of a script's shelf.
 use Rattle.std.specs.Prelude.{◌≡◌, ◌≢◌, ℕ, ◌-◌, ◌<◌, ◌≤◌, true, false, List, length, Ok}
-use Rattle.pt_args.specs.rv_mem.Actions.{AreEqualUnmarked, carried_out}
-use Rattle.pt_args.specs.rv_mem.Memory.{Memory}
-use Rattle.pt_args.specs.rv_mem.Pages.{IsPlaced, IsWhole, allows}
-use Rattle.pt_args.specs.rv_mem.declared.rights.Use.TheVariants.{Read}
-use Rattle.pt_args.specs.Laws.{IsPathText, poked}
-use Rattle.pt_args.specs.Shelving.{shelf_size}
-use Rattle.pt_args.specs.pt_canon.TextWalk.{TextSurroundings}
+use Rattle.kr_first.specs.rv_mem.Actions.{AreEqualUnmarked, carried_out}
+use Rattle.kr_first.specs.rv_mem.Memory.{Memory}
+use Rattle.kr_first.specs.rv_mem.Pages.{IsPlaced, IsWhole, allows}
+use Rattle.kr_first.specs.rv_mem.declared.rights.Use.TheVariants.{Read}
+use Rattle.law_edits.specs.pt_args.Laws.{IsPathText, poked}
+use Rattle.law_edits.specs.pt_args.Shelving.{shelf_size}
+use Rattle.law_edits.specs.pt_canon.TextWalk.{TextSurroundings}
 use Rattle.law_edits.specs.pt_faker.Reading.{addresses_behind}
 use Rattle.law_edits.specs.pt_script.Expanding.{expanded_at}
 use Rattle.law_edits.specs.pt_script.declared.expansion.Expanded.{Expanded}
 use Rattle.law_edits.specs.pt_tracer.ScriptEdit.{put_texts}
-use Rattle.pt_args.specs.kr_calls.Expansion.{bytes_with_ends}
+use Rattle.kr_first.specs.kr_calls.Expansion.{bytes_with_ends}
 use Rattle.kr_first.specs.kr_exec.Lists.{lists_at}
 use Rattle.kr_first.specs.kr_exec.declared.lists.Lists.{Lists}
 use Rattle.law_programs.specs.Shelves.{script_shelf}

@@ -7,13 +7,13 @@ use Rattle.kr_first.specs.pr_base.WalkFrame.{Target}
 use Rattle.kr_first.specs.pr_base.declared.errno.Errno.{Errno}
 use Rattle.kr_first.specs.pr_base.declared.errno.Errno.TheVariants.{EACCES}
 use Rattle.kr_first.specs.pr_base.declared.path.WalkMode.TheVariants.{Look}
-use Rattle.pt_args.specs.rv_mem.Actions.{carried_out}
-use Rattle.pt_args.specs.rv_mem.Memory.{Memory}
-use Rattle.pt_args.specs.Walks.{and_then}
+use Rattle.kr_first.specs.rv_mem.Actions.{carried_out}
+use Rattle.kr_first.specs.rv_mem.Memory.{Memory}
+use Rattle.law_edits.specs.pt_args.Walks.{and_then}
 use Rattle.kr_first.specs.pt_bind.Binding.{index_of}
 use Rattle.kr_first.specs.pt_bind.Tags.{TagTable}
-use Rattle.pt_args.specs.pt_canon.TextWalk.{TextSurroundings}
-use Rattle.pt_args.specs.pt_canon.declared.canon.Canon.{Canon}
+use Rattle.law_edits.specs.pt_canon.TextWalk.{TextSurroundings}
+use Rattle.law_edits.specs.pt_canon.declared.canon.Canon.{Canon}
 use Rattle.law_edits.specs.pt_script.Programs.{base_from, canon_from, program_from}
 use Rattle.kr_first.specs.kr_tree.declared.place.Place.{Place}
 use Rattle.kr_first.specs.kr_view.View.{Row, plain}

@@ -1,12 +1,12 @@
 -- What a tracer puts on the shelf of a script.
 use Rattle.std.specs.Prelude.{◌≡◌, ◌≢◌, ℕ, ◌-◌, ◌*◌, ◌<◌, ◌≤◌, false, List, ◌++◌, drop, length, Ok}
 use Rattle.std.specs.List.{All}
-use Rattle.pt_args.specs.rv_mem.Actions.{carried_out}
-use Rattle.pt_args.specs.kr_calls.Expansion.{is_too_big}
-use Rattle.pt_args.specs.pt_canon.TextWalk.{TextSurroundings}
-use Rattle.pt_args.specs.Edits.{longest_path}
-use Rattle.pt_args.specs.Laws.{IsPathText}
-use Rattle.pt_args.specs.Shelving.{shelf_size}
+use Rattle.kr_first.specs.rv_mem.Actions.{carried_out}
+use Rattle.kr_first.specs.kr_calls.Expansion.{is_too_big}
+use Rattle.law_edits.specs.pt_canon.TextWalk.{TextSurroundings}
+use Rattle.law_edits.specs.pt_args.Edits.{longest_path}
+use Rattle.law_edits.specs.pt_args.Laws.{IsPathText}
+use Rattle.law_edits.specs.pt_args.Shelving.{shelf_size}
 use Rattle.law_edits.specs.pt_faker.Reading.{addresses_behind}
 use Rattle.law_edits.specs.pt_script.Expanding.{expanded_at}
 use Rattle.law_edits.specs.pt_script.declared.expansion.Expanded.{Expanded}

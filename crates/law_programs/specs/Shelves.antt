@@ -2,13 +2,13 @@
 use Rattle.std.specs.Prelude.{◌≡◌, ℕ, ◌+◌, ◌-◌, ◌*◌, ◌<◌, ◌≤◌, true, List, [], ◌∷◌, ◌++◌, length, Ok}
 use Rattle.std.specs.List.{All}
 use Rattle.kr_first.specs.pr_base.Paths.{text_limit}
-use Rattle.pt_args.specs.rv_mem.Memory.{text_of}
-use Rattle.pt_args.specs.rv_mem.Pages.{IsPlaced, IsWhole, Pages, allows, bytes_from}
-use Rattle.pt_args.specs.rv_mem.declared.rights.Use.TheVariants.{Read}
-use Rattle.pt_args.specs.Laws.{IsPathText, poked}
-use Rattle.pt_args.specs.Shelving.{shelf_size, with_item, with_zero}
-use Rattle.pt_args.specs.declared.edit.Edit.TheVariants.{Swap}
-use Rattle.pt_args.specs.declared.shelf.Shelf.{Shelf}
+use Rattle.kr_first.specs.rv_mem.Memory.{text_of}
+use Rattle.kr_first.specs.rv_mem.Pages.{IsPlaced, IsWhole, Pages, allows, bytes_from}
+use Rattle.kr_first.specs.rv_mem.declared.rights.Use.TheVariants.{Read}
+use Rattle.law_edits.specs.pt_args.Laws.{IsPathText, poked}
+use Rattle.law_edits.specs.pt_args.Shelving.{shelf_size, with_item, with_zero}
+use Rattle.law_edits.specs.pt_args.declared.edit.Edit.TheVariants.{Swap}
+use Rattle.law_edits.specs.pt_args.declared.shelf.Shelf.{Shelf}
 use Rattle.law_edits.specs.pt_tracer.ScriptEdit.{empty_shelf, list_item, script_room, shelved_script, with_texts}
 use Rattle.law_programs.specs.Lists.{AreEntries, IsList}
 

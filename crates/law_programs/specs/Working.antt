@@ -1,6 +1,6 @@
 -- The working directory of a process, as a tracer knows it.
 use Rattle.std.specs.Prelude.{◌≡◌, ℕ, true, List, Some}
-use Rattle.pt_args.specs.Bases.{working_text}
+use Rattle.law_edits.specs.pt_args.Bases.{working_text}
 use Rattle.kr_first.specs.pt_bind.Tags.{TagTable}
 use Rattle.kr_first.specs.kr_view.Component.{is_directory_at}
 use Rattle.kr_first.specs.kr_view.Living.{Each, HasSmallNumbers}

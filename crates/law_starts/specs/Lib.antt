@@ -1,7 +1,11 @@
+pub use Rattle.pr_start.specs.rv_mem as rv_mem
 pub use Rattle.law_turns.specs.rv_cpu as rv_cpu
 pub use Rattle.law_turns.specs.kr_files as kr_files
+pub use Rattle.law_turns.specs.kr_calls as kr_calls
 pub use Rattle.law_turns.specs.kr_model as kr_model
 pub use Rattle.pr_start.specs.law_allowed as law_allowed
+pub use Rattle.pr_start.specs.pt_canon as pt_canon
+pub use Rattle.law_turns.specs.pt_args as pt_args
 pub use Rattle.pr_start.specs.kr_exec as kr_exec
 pub use Rattle.law_programs.specs.kr_first as kr_first
 pub use Rattle.law_turns.specs.kr_calm as kr_calm

@@ -14,4 +14,5 @@
 #![tactic(auto)]
 
 pub mod beginning;
+pub mod below;
 pub mod finding;

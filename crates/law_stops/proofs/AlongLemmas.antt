@@ -4,9 +4,9 @@ use Rattle.law_turns.specs.pr_base.declared.errno.Errno.{Errno}
 use Rattle.law_edits.specs.pt_ident.Identity.{Identity, effect}
 use Rattle.law_edits.specs.pt_ident.IdentityTable.{identity_at}
 use Rattle.law_edits.specs.kr_view.View.{Row}
-use Rattle.pt_args.specs.kr_calls.Decoding.{Decoded}
-use Rattle.pt_args.specs.kr_calls.declared.request.Request.{Request}
-use Rattle.pt_args.specs.kr_calls.declared.request.Request.TheVariants as call
+use Rattle.law_turns.specs.kr_calls.Decoding.{Decoded}
+use Rattle.law_turns.specs.kr_calls.declared.request.Request.{Request}
+use Rattle.law_turns.specs.kr_calls.declared.request.Request.TheVariants as call
 use Rattle.law_edits.specs.kr_model.Known.{known}
 use Rattle.law_edits.specs.kr_model.State.{Image, Process, State, image_layout, process}
 use Rattle.law_edits.specs.kr_model.Walks.{seen}

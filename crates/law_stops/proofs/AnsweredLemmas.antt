@@ -7,21 +7,21 @@ use Rattle.std.specs.Option.{option_map}
 use Rattle.law_turns.proofs.pr_base.MapLemmas.{get-insert_same}
 use Rattle.law_turns.specs.pr_base.declared.errno.Errno.{Errno}
 use Rattle.law_turns.specs.pr_base.declared.errno.Errno.TheVariants.{ENOSYS}
-use Rattle.pt_args.specs.rv_mem.Actions.{AreEqualUnmarked, carried_out}
-use Rattle.pt_args.specs.rv_mem.Layout.{layout_of}
-use Rattle.pt_args.specs.rv_mem.Memory.{Memory}
-use Rattle.pt_args.specs.rv_mem.Pages.{IsPlaced, IsWhole}
-use Rattle.pt_args.specs.rv_mem.declared.regs.Regs.{Regs}
-use Rattle.pt_args.specs.pt_bind.Tags.{TagTable}
+use Rattle.law_edits.specs.rv_mem.Actions.{AreEqualUnmarked, carried_out}
+use Rattle.law_edits.specs.rv_mem.Layout.{layout_of}
+use Rattle.law_edits.specs.rv_mem.Memory.{Memory}
+use Rattle.law_edits.specs.rv_mem.Pages.{IsPlaced, IsWhole}
+use Rattle.law_edits.specs.rv_mem.declared.regs.Regs.{Regs}
+use Rattle.law_edits.specs.pt_bind.Tags.{TagTable}
 use Rattle.law_edits.specs.pt_ident.Identity.{refusal}
-use Rattle.pt_args.specs.declared.edit.Edit.TheVariants.{Cancel}
+use Rattle.law_turns.specs.pt_args.declared.edit.Edit.TheVariants.{Cancel}
 use Rattle.law_turns.specs.pt_results.Numbers.{made_number}
 use Rattle.law_turns.specs.pt_results.Notes.{noted, noted_of, tags_after}
 use Rattle.law_edits.specs.kr_view.View.{plain}
-use Rattle.pt_args.specs.kr_calls.Decoding.{decoding}
-use Rattle.pt_args.specs.kr_calls.PathTable.{path_at}
-use Rattle.pt_args.specs.kr_calls.declared.request.Request.{Request}
-use Rattle.pt_args.specs.kr_calls.declared.request.Request.TheVariants as call
+use Rattle.law_turns.specs.kr_calls.Decoding.{decoding}
+use Rattle.law_turns.specs.kr_calls.PathTable.{path_at}
+use Rattle.law_turns.specs.kr_calls.declared.request.Request.{Request}
+use Rattle.law_turns.specs.kr_calls.declared.request.Request.TheVariants as call
 use Rattle.law_turns.proofs.law_lawful.ProcessChangeLemmas.{found}
 use Rattle.law_edits.specs.kr_model.Applied.{all_applied, images, with_living}
 use Rattle.law_edits.specs.kr_model.Known.{known}

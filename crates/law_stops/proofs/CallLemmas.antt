@@ -8,20 +8,20 @@ use Rattle.std.specs.Option.{option_map, option_map_or}
 use Rattle.std.proofs.lemmas.Option.{same_Some}
 use Rattle.law_turns.proofs.pr_base.MapLemmas.{get-insert_same, get-remove_same}
 use Rattle.law_turns.specs.pr_base.declared.errno.Errno.{Errno}
-use Rattle.pt_args.specs.rv_mem.Actions.{AreEqualUnmarked, carried_out}
-use Rattle.pt_args.specs.rv_mem.Layout.{layout_of}
-use Rattle.pt_args.specs.rv_mem.Memory.{Memory}
-use Rattle.pt_args.specs.rv_mem.Pages.{HoldsBytes}
-use Rattle.pt_args.specs.rv_mem.declared.regs.Regs.{Regs}
-use Rattle.pt_args.proofs.rv_mem.AddressLemmas.{byte_at-marked}
-use Rattle.pt_args.specs.pt_bind.Tags.{TagTable, dropped}
+use Rattle.law_edits.specs.rv_mem.Actions.{AreEqualUnmarked, carried_out}
+use Rattle.law_edits.specs.rv_mem.Layout.{layout_of}
+use Rattle.law_edits.specs.rv_mem.Memory.{Memory}
+use Rattle.law_edits.specs.rv_mem.Pages.{HoldsBytes}
+use Rattle.law_edits.specs.rv_mem.declared.regs.Regs.{Regs}
+use Rattle.law_turns.proofs.rv_mem.AddressLemmas.{byte_at-marked}
+use Rattle.law_edits.specs.pt_bind.Tags.{TagTable, dropped}
 use Rattle.law_edits.specs.pt_ident.IdentityTable.{after_birth, after_end as forgets}
 use Rattle.law_turns.specs.pt_results.Notes.{noted, tags_after}
 use Rattle.law_edits.specs.kr_view.View.{Row, plain}
-use Rattle.pt_args.specs.kr_calls.Arguments.{number}
-use Rattle.pt_args.specs.kr_calls.Decoding.{Decoded, decoding}
-use Rattle.pt_args.specs.kr_calls.declared.request.Request.{Request}
-use Rattle.pt_args.specs.kr_calls.declared.request.Request.TheVariants as call
+use Rattle.law_turns.specs.kr_calls.Arguments.{number}
+use Rattle.law_turns.specs.kr_calls.Decoding.{Decoded, decoding}
+use Rattle.law_turns.specs.kr_calls.declared.request.Request.{Request}
+use Rattle.law_turns.specs.kr_calls.declared.request.Request.TheVariants as call
 use Rattle.law_edits.specs.kr_model.Known.{Known, known}
 use Rattle.law_edits.specs.kr_model.Operation.{operation}
 use Rattle.law_edits.specs.kr_model.Reply.{Reply}

@@ -7,18 +7,18 @@ use Rattle.std.specs.List.{list_all}
 use Rattle.std.specs.Option.{option_map, option_map_or}
 use Rattle.std.proofs.lemmas.Bool.{and_parts, or_parts}
 use Rattle.law_turns.specs.pr_base.declared.errno.Errno.{Errno}
-use Rattle.pt_args.specs.rv_mem.Actions.{AreEqualUnmarked, CarriedOut, carried_out}
-use Rattle.pt_args.specs.rv_mem.Memory.{Memory}
-use Rattle.pt_args.specs.rv_mem.Pages.{HoldsBytes, Pages}
-use Rattle.pt_args.specs.rv_mem.declared.regs.Regs.{Regs}
-use Rattle.pt_args.specs.declared.edit.Edit.{Edit}
+use Rattle.law_edits.specs.rv_mem.Actions.{AreEqualUnmarked, CarriedOut, carried_out}
+use Rattle.law_edits.specs.rv_mem.Memory.{Memory}
+use Rattle.law_edits.specs.rv_mem.Pages.{HoldsBytes, Pages}
+use Rattle.law_edits.specs.rv_mem.declared.regs.Regs.{Regs}
+use Rattle.law_turns.specs.pt_args.declared.edit.Edit.{Edit}
 use Rattle.law_turns.specs.pt_results.Notes.{noted, tags_after}
 use Rattle.law_edits.specs.kr_view.View.{plain}
-use Rattle.pt_args.specs.kr_calls.CallTable.{line}
-use Rattle.pt_args.specs.kr_calls.Decoding.{decoding}
-use Rattle.pt_args.specs.kr_calls.PathTable.{path_at}
-use Rattle.pt_args.specs.kr_calls.declared.request.Request.{Request}
-use Rattle.pt_args.specs.kr_calls.declared.request.Request.TheVariants as call
+use Rattle.law_turns.specs.kr_calls.CallTable.{line}
+use Rattle.law_turns.specs.kr_calls.Decoding.{decoding}
+use Rattle.law_turns.specs.kr_calls.PathTable.{path_at}
+use Rattle.law_turns.specs.kr_calls.declared.request.Request.{Request}
+use Rattle.law_turns.specs.kr_calls.declared.request.Request.TheVariants as call
 use Rattle.law_turns.specs.law_allowed.Allowed.{LeavesLawful, with_memory}
 use Rattle.law_turns.specs.law_allowed.Resting.{HasSmallNumbers}
 use Rattle.law_turns.specs.law_allowed.Told.{mounts_walked}

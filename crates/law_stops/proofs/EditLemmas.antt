@@ -3,12 +3,12 @@ use Rattle.std.proofs.Common.{◌≡◌, ℕ, Bool, true, false, cond, List, Opt
 use Rattle.std.specs.Prelude.{◌&&◌, ◌==◌, IsSome, get_or, slice_set}
 use Rattle.std.specs.Option.{option_map, option_map_or}
 use Rattle.std.proofs.lemmas.Option.{same_Some}
-use Rattle.pt_args.specs.rv_mem.Actions.{Action, AreEqualUnmarked, carried_out}
-use Rattle.pt_args.specs.rv_mem.Memory.{Memory}
-use Rattle.pt_args.specs.rv_mem.declared.regs.Regs.{Regs}
-use Rattle.pt_args.proofs.rv_mem.ActionLemmas.{reads_alike}
+use Rattle.law_edits.specs.rv_mem.Actions.{Action, AreEqualUnmarked, carried_out}
+use Rattle.law_edits.specs.rv_mem.Memory.{Memory}
+use Rattle.law_edits.specs.rv_mem.declared.regs.Regs.{Regs}
+use Rattle.law_turns.proofs.rv_mem.ActionLemmas.{reads_alike}
 use Rattle.law_turns.specs.pr_base.declared.errno.Errno.TheVariants.{EPERM}
-use Rattle.pt_args.specs.pt_bind.Tags.{TagTable}
+use Rattle.law_edits.specs.pt_bind.Tags.{TagTable}
 use Rattle.law_edits.specs.kr_view.View.{Row, plain}
 use Rattle.law_edits.specs.kr_model.State.{Image, Process, State, process, with_process}
 use Rattle.law_turns.proofs.law_allowed.RowLemmas.{StaysLike, lawful-image, stays-like}

@@ -4,13 +4,13 @@ use Rattle.std.proofs.Common.{◌≡◌, ℕ, Bool, true, false, cond, List, [],
 use Rattle.std.specs.Prelude.{IsSome}
 use Rattle.std.specs.Int.{cast_signed, w64}
 use Rattle.law_turns.specs.pr_base.declared.errno.Errno.TheVariants.{EFAULT}
-use Rattle.pt_args.specs.rv_mem.Actions.{AreEqualUnmarked, carried_out}
-use Rattle.pt_args.specs.rv_mem.Memory.{Memory}
-use Rattle.pt_args.specs.declared.edit.Edit.TheVariants.{Cancel}
+use Rattle.law_edits.specs.rv_mem.Actions.{AreEqualUnmarked, carried_out}
+use Rattle.law_edits.specs.rv_mem.Memory.{Memory}
+use Rattle.law_turns.specs.pt_args.declared.edit.Edit.TheVariants.{Cancel}
 use Rattle.law_turns.specs.pt_results.Notes.{noted, tags_after}
-use Rattle.pt_args.specs.kr_calls.Decoding.{decoding}
-use Rattle.pt_args.specs.kr_calls.PathTable.{path_at}
-use Rattle.pt_args.specs.kr_calls.declared.request.Request.{Request}
+use Rattle.law_turns.specs.kr_calls.Decoding.{decoding}
+use Rattle.law_turns.specs.kr_calls.PathTable.{path_at}
+use Rattle.law_turns.specs.kr_calls.declared.request.Request.{Request}
 use Rattle.law_edits.specs.kr_model.State.{Image, Process, State}
 use Rattle.law_edits.specs.kr_model.Walks.{seen}
 use Rattle.law_edits.specs.kr_model.declared.outcome.Outcome.TheVariants.{Answer}
@@ -31,10 +31,10 @@ use Rattle.law_turns.specs.Lasting.{CanBeCalled}
 use Rattle.law_turns.specs.Operating.{done_in}
 use Rattle.law_stops.proofs.CallLemmas as before
 use Rattle.law_stops.proofs.CallLemmas.{exit_status, own_image, unwatched_exit}
-use Rattle.pt_args.specs.Laws.{poked as pages_poked}
-use Rattle.pt_args.specs.declared.edit.Edit.{Edit}
-use Rattle.pt_args.specs.declared.edit.Edit.TheVariants.{Emulate, Pass, Swap}
-use Rattle.pt_args.specs.rv_mem.Memory.{with_pages}
+use Rattle.law_turns.specs.pt_args.Laws.{poked as pages_poked}
+use Rattle.law_turns.specs.pt_args.declared.edit.Edit.{Edit}
+use Rattle.law_turns.specs.pt_args.declared.edit.Edit.TheVariants.{Emulate, Pass, Swap}
+use Rattle.law_edits.specs.rv_mem.Memory.{with_pages}
 use Rattle.law_edits.specs.pt_tracer.Poking.{may_poke, poked}
 use Rattle.law_edits.specs.pt_tracer.Registers.{with_arguments}
 use Rattle.law_edits.proofs.StopLemmas.{items_put, register_set}

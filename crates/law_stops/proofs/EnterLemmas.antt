@@ -1,13 +1,13 @@
 -- The caller on the plain machine as the tracer leaves it at the first stop: its memory has the pages that it had, and bytes.
 use Rattle.std.specs.Prelude.{IsSome}
 use Rattle.std.proofs.Common.{◌≡◌, ℕ, Some, refl, sym, ap, subst, ◌∙◌}
-use Rattle.pt_args.specs.rv_mem.Actions.{carried_out}
-use Rattle.pt_args.specs.rv_mem.Memory.{Memory}
-use Rattle.pt_args.specs.rv_mem.Pages.{HoldsBytes}
-use Rattle.pt_args.specs.rv_mem.declared.regs.Regs.{Regs}
+use Rattle.law_edits.specs.rv_mem.Actions.{carried_out}
+use Rattle.law_edits.specs.rv_mem.Memory.{Memory}
+use Rattle.law_edits.specs.rv_mem.Pages.{HoldsBytes}
+use Rattle.law_edits.specs.rv_mem.declared.regs.Regs.{Regs}
 use Rattle.law_edits.specs.kr_view.View.{plain}
-use Rattle.pt_args.specs.kr_calls.Decoding.{decoding}
-use Rattle.pt_args.specs.kr_calls.declared.request.Request.{Request}
+use Rattle.law_turns.specs.kr_calls.Decoding.{decoding}
+use Rattle.law_turns.specs.kr_calls.declared.request.Request.{Request}
 use Rattle.law_turns.proofs.law_allowed.DecodedLemmas.{decoding-leaves-pages}
 use Rattle.law_turns.proofs.law_allowed.RowLemmas.{StaysLike, lawful-image}
 use Rattle.law_edits.specs.kr_model.Bare.{bare, pins_of}

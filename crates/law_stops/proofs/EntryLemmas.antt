@@ -1,7 +1,7 @@
 -- A calm call at its first stop: a watcher that leaves it to the kernel leaves the process as it is.
 use Rattle.std.proofs.Common.{◌≡◌, ℕ, Bool, false, Some, None, sym, ap, ◌∙◌}
-use Rattle.pt_args.specs.rv_mem.Actions.{carried_out}
-use Rattle.pt_args.specs.kr_calls.Decoding.{decoding}
+use Rattle.law_edits.specs.rv_mem.Actions.{carried_out}
+use Rattle.law_turns.specs.kr_calls.Decoding.{decoding}
 use Rattle.law_edits.specs.kr_model.State.{Image, Process, State, process}
 use Rattle.law_turns.proofs.law_allowed.DecodedLemmas.{decoding-leaves-pages}
 use Rattle.law_turns.specs.kr_steps.Computing.{computed}

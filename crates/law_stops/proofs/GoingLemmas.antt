@@ -2,7 +2,7 @@
 use Rattle.std.proofs.Common.{◌≡◌, ℕ, suc, List, Option, Some, None, refl, sym, ap, subst, ◌∙◌}
 use Rattle.std.specs.Prelude.{IsSome}
 use Rattle.std.specs.Option.{option_map}
-use Rattle.pt_args.specs.pt_bind.Tags.{TagTable}
+use Rattle.law_edits.specs.pt_bind.Tags.{TagTable}
 use Rattle.law_edits.specs.pt_ident.IdentityTable.{after_birth, after_end as forgets}
 use Rattle.law_edits.specs.kr_view.View.{Row}
 use Rattle.law_edits.specs.kr_model.State.{Image, Process, process}

@@ -4,18 +4,18 @@ use Rattle.std.proofs.Common.{◌≡◌, ℕ, suc, Bool, false, Option, Some, No
 use Rattle.std.specs.Prelude.{◌==◌, slice_set}
 use Rattle.law_turns.proofs.pr_base.MapLemmas.{get-insert_same}
 use Rattle.law_turns.specs.pr_base.declared.errno.Errno.TheVariants.{ENOSYS}
-use Rattle.pt_args.specs.rv_mem.Actions.{Action, AreEqualUnmarked, CarriedOut, carried_out}
-use Rattle.pt_args.specs.rv_mem.Memory.{Memory}
-use Rattle.pt_args.specs.rv_mem.Pages.{Pages}
-use Rattle.pt_args.proofs.rv_mem.ActionLemmas.{reads_alike}
+use Rattle.law_edits.specs.rv_mem.Actions.{Action, AreEqualUnmarked, CarriedOut, carried_out}
+use Rattle.law_edits.specs.rv_mem.Memory.{Memory}
+use Rattle.law_edits.specs.rv_mem.Pages.{Pages}
+use Rattle.law_turns.proofs.rv_mem.ActionLemmas.{reads_alike}
 use Rattle.law_edits.specs.pt_ident.Identity.{Answered, Effect, Identity, effect, on_memory, refusal}
 use Rattle.law_edits.specs.pt_ident.IdentityTable.{identity_at, with_identity}
-use Rattle.pt_args.specs.pt_bind.Tags.{TagTable}
+use Rattle.law_edits.specs.pt_bind.Tags.{TagTable}
 use Rattle.law_turns.specs.pt_results.Notes.{noted_of, tags_after}
 use Rattle.law_edits.specs.kr_view.View.{plain}
-use Rattle.pt_args.specs.kr_calls.Decoding.{decoding}
-use Rattle.pt_args.specs.kr_calls.declared.request.Request.{Request}
-use Rattle.pt_args.specs.kr_calls.declared.request.Request.TheVariants as call
+use Rattle.law_turns.specs.kr_calls.Decoding.{decoding}
+use Rattle.law_turns.specs.kr_calls.declared.request.Request.{Request}
+use Rattle.law_turns.specs.kr_calls.declared.request.Request.TheVariants as call
 use Rattle.law_edits.specs.kr_model.State.{Image, Process, State, process, with_process}
 use Rattle.law_edits.specs.kr_model.declared.outcome.Outcome.TheVariants.{Answer}
 use Rattle.law_turns.proofs.law_allowed.DecodedLemmas.{decoding-leaves-pages}

@@ -5,15 +5,15 @@ use Rattle.std.specs.Prelude.{◌&&◌, ◌==◌, IsSome, is_none}
 use Rattle.std.specs.Ordering.{nat_cmp}
 use Rattle.std.proofs.lemmas.Option.{same_Some}
 use Rattle.law_turns.proofs.pr_base.MapLemmas.{get-insert_same, get-remove_same}
-use Rattle.pt_args.specs.rv_mem.Actions.{carried_out}
+use Rattle.law_edits.specs.rv_mem.Actions.{carried_out}
 use Rattle.law_edits.specs.pt_ident.Identity.{Identity, after_exec, effect}
 use Rattle.law_edits.specs.pt_ident.IdentityTable.{IdentityTable, identity_at, starts_as_root}
-use Rattle.pt_args.specs.pt_bind.Tags.{TagTable, with_tag}
-use Rattle.pt_args.specs.pt_bind.declared.slot.Slot.TheVariants.{Exe}
+use Rattle.law_edits.specs.pt_bind.Tags.{TagTable, with_tag}
+use Rattle.law_edits.specs.pt_bind.declared.slot.Slot.TheVariants.{Exe}
 use Rattle.law_turns.specs.pt_results.Notes.{noted, tags_after}
 use Rattle.law_edits.specs.kr_view.View.{Row, plain}
-use Rattle.pt_args.specs.kr_calls.declared.request.Request.{Request}
-use Rattle.pt_args.specs.kr_calls.declared.request.Request.TheVariants as call
+use Rattle.law_turns.specs.kr_calls.declared.request.Request.{Request}
+use Rattle.law_turns.specs.kr_calls.declared.request.Request.TheVariants as call
 use Rattle.law_edits.specs.kr_model.State.{Image, Process, State, process}
 use Rattle.law_turns.specs.kr_steps.Calls.{IsNoExec, LastsLawful}
 use Rattle.law_turns.specs.kr_turns.Breaking.{plain_rule}

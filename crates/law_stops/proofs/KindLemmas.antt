@@ -1,13 +1,13 @@
 -- Calls along paths by what the tracer makes of them, where an identity is told.
 use Rattle.std.proofs.Common.{◌≡◌, ℕ, true, List, Option, Some, None, Ok, refl, sym, ap, subst, ◌∙◌, ℤ}
 use Rattle.law_turns.specs.pr_base.declared.errno.Errno.{Errno}
-use Rattle.pt_args.specs.rv_mem.Memory.{Memory}
-use Rattle.pt_args.specs.rv_mem.declared.regs.Regs.{Regs}
+use Rattle.law_edits.specs.rv_mem.Memory.{Memory}
+use Rattle.law_edits.specs.rv_mem.declared.regs.Regs.{Regs}
 use Rattle.law_edits.specs.kr_view.View.{plain}
-use Rattle.pt_args.specs.kr_calls.CallTable.{line}
-use Rattle.pt_args.specs.kr_calls.PathTable.{path_at}
-use Rattle.pt_args.specs.kr_calls.declared.request.Request.{Request}
-use Rattle.pt_args.specs.kr_calls.declared.request.Request.TheVariants as call
+use Rattle.law_turns.specs.kr_calls.CallTable.{line}
+use Rattle.law_turns.specs.kr_calls.PathTable.{path_at}
+use Rattle.law_turns.specs.kr_calls.declared.request.Request.{Request}
+use Rattle.law_turns.specs.kr_calls.declared.request.Request.TheVariants as call
 use Rattle.law_edits.specs.kr_model.Known.{known}
 use Rattle.law_edits.specs.kr_model.Seen.{WalkFails}
 use Rattle.law_edits.specs.kr_model.State.{Image, Process, State, image_layout}
@@ -20,8 +20,8 @@ use Rattle.law_turns.proofs.kr_stops.EditLemmas.{there}
 use Rattle.law_turns.proofs.kr_turns.PlainLemmas.{no-exec-requested}
 use Rattle.law_turns.proofs.kr_turns.TargetLemmas.{targets-are-told}
 use Rattle.law_turns.specs.law_kept.ImagePaths.{is_told_of_paths}
-use Rattle.pt_args.specs.Laws.{ShelvesHoldTheirItems, TextsAreReadBack}
-use Rattle.pt_args.specs.declared.edit.Edit.{Edit}
+use Rattle.law_turns.specs.pt_args.Laws.{ShelvesHoldTheirItems, TextsAreReadBack}
+use Rattle.law_turns.specs.pt_args.declared.edit.Edit.{Edit}
 use Rattle.law_edits.specs.pt_ident.Identity.{refusal}
 use Rattle.law_edits.specs.pt_faker.Faking.{Faking}
 use Rattle.law_edits.specs.pt_faker.Stopping.{after_request, decoded_at}

@@ -1,4 +1,5 @@
 pub use Rattle.law_edits.proofs.kr_view as kr_view
+pub use Rattle.law_turns.proofs.kr_calls as kr_calls
 pub use Rattle.law_edits.proofs.kr_model as kr_model
 pub use Rattle.law_turns.proofs.law_allowed as law_allowed
 pub use Rattle.law_turns.proofs.kr_turns as kr_turns

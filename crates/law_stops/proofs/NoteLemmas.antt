@@ -9,11 +9,11 @@ use Rattle.std.proofs.lemmas.Bool.Decides.{nat_tests}
 use Rattle.std.proofs.lemmas.Int.{to_z-of_z}
 use Rattle.std.proofs.lemmas.Bool.{and_parts}
 use Rattle.law_turns.specs.pr_base.declared.errno.Errno.TheVariants.{EACCES, EAGAIN, EBADF, EINVAL, EMFILE, ENOMEM, ENOTDIR}
-use Rattle.pt_args.specs.rv_mem.Actions.{MayUse, allows_uses, carried_out}
-use Rattle.pt_args.specs.rv_mem.Memory.{Memory}
-use Rattle.pt_args.specs.rv_mem.declared.rights.Use.TheVariants.{Write}
-use Rattle.pt_args.specs.pt_bind.Tags.{TagTable, forked, tag_of, with_tag}
-use Rattle.pt_args.specs.pt_bind.declared.slot.Slot.TheVariants.{Cwd, Exe, Fd}
+use Rattle.law_edits.specs.rv_mem.Actions.{MayUse, allows_uses, carried_out}
+use Rattle.law_edits.specs.rv_mem.Memory.{Memory}
+use Rattle.law_edits.specs.rv_mem.declared.rights.Use.TheVariants.{Write}
+use Rattle.law_edits.specs.pt_bind.Tags.{TagTable, forked, tag_of, with_tag}
+use Rattle.law_edits.specs.pt_bind.declared.slot.Slot.TheVariants.{Cwd, Exe, Fd}
 use Rattle.law_turns.specs.pt_results.Notes.{copied as noted_copy, copied_from, noted_of, tags_after}
 use Rattle.law_turns.specs.pt_results.Numbers.{made_number}
 use Rattle.law_edits.specs.kr_tree.declared.place.Place.{Place}
@@ -22,10 +22,10 @@ use Rattle.law_edits.specs.kr_files.WithoutMounts.{without_mount}
 use Rattle.law_edits.specs.kr_files.declared.opened.Opened.{Opened}
 use Rattle.law_edits.proofs.kr_files.DescriptorLemmas.{lowest_free-some}
 use Rattle.law_edits.specs.kr_view.View.{Row}
-use Rattle.pt_args.specs.kr_calls.Arguments.{has}
-use Rattle.pt_args.specs.kr_calls.Kinds.{Kind, CopiesDescriptor, Ends, EntersOpen, Forks, OpensOpen, ReplacesOpen}
-use Rattle.pt_args.specs.kr_calls.declared.request.Request.{Request}
-use Rattle.pt_args.specs.kr_calls.declared.request.Request.TheVariants as call
+use Rattle.law_turns.specs.kr_calls.Arguments.{has}
+use Rattle.law_turns.specs.kr_calls.Kinds.{Kind, CopiesDescriptor, Ends, EntersOpen, Forks, OpensOpen, ReplacesOpen}
+use Rattle.law_turns.specs.kr_calls.declared.request.Request.{Request}
+use Rattle.law_turns.specs.kr_calls.declared.request.Request.TheVariants as call
 use Rattle.law_edits.specs.kr_model.Applied.{Mounts, applied, images, mount_of}
 use Rattle.law_edits.specs.kr_model.Asking.{descriptor_number, is_directory_host, is_searched, or_closed}
 use Rattle.law_edits.specs.kr_model.Change.{Change, ChangeDirectory, CopyDescriptor, End, Fork, OfDescriptor, OfDirectory, OfFound, OpenFile, ReplaceExecutable, SetAppend, SetCloexec}

@@ -2,12 +2,12 @@
 use Rattle.std.specs.FinMap as map
 use Rattle.std.proofs.Common.{◌≡◌, ℕ, zero, suc, false, cond, List, [], ◌∷◌, Option, Some, None, get_or, refl, sym, ap, ◌∙◌}
 use Rattle.std.specs.Prelude.{◌&&◌, is_none, slice_set}
-use Rattle.pt_args.specs.Edits.{edit_by}
-use Rattle.pt_args.specs.Plans.{first_walked}
-use Rattle.pt_args.specs.kr_calls.CallTable.{line}
-use Rattle.pt_args.specs.kr_calls.PathTable.{PathUse}
-use Rattle.pt_args.specs.kr_calls.declared.request.Request.{Request}
-use Rattle.pt_args.specs.kr_calls.declared.request.Request.TheVariants as call
+use Rattle.law_turns.specs.pt_args.Edits.{edit_by}
+use Rattle.law_turns.specs.pt_args.Plans.{first_walked}
+use Rattle.law_turns.specs.kr_calls.CallTable.{line}
+use Rattle.law_turns.specs.kr_calls.PathTable.{PathUse}
+use Rattle.law_turns.specs.kr_calls.declared.request.Request.{Request}
+use Rattle.law_turns.specs.kr_calls.declared.request.Request.TheVariants as call
 use Rattle.law_turns.specs.pt_results.Notes.{noted, tags_after}
 use Rattle.law_edits.specs.pt_faker.Faking.{has_answered_zero}
 use Rattle.law_edits.specs.pt_ident.IdentityTable.{IdentityTable}

@@ -5,9 +5,9 @@ use Rattle.law_turns.specs.pr_base.declared.errno.Errno.{Errno}
 use Rattle.law_edits.specs.pt_ident.Identity.{Effect, effect}
 use Rattle.law_edits.specs.pt_ident.IdentityTable.{identity_at}
 use Rattle.law_edits.specs.kr_view.View.{plain}
-use Rattle.pt_args.specs.kr_calls.Decoding.{Decoded}
-use Rattle.pt_args.specs.kr_calls.declared.request.Request.{Request}
-use Rattle.pt_args.specs.kr_calls.declared.request.Request.TheVariants as call
+use Rattle.law_turns.specs.kr_calls.Decoding.{Decoded}
+use Rattle.law_turns.specs.kr_calls.declared.request.Request.{Request}
+use Rattle.law_turns.specs.kr_calls.declared.request.Request.TheVariants as call
 use Rattle.law_edits.specs.kr_model.Known.{known}
 use Rattle.law_edits.specs.kr_model.State.{Image, Process, State, image_layout, process}
 use Rattle.law_turns.specs.kr_steps.Calls.{LastsLawful}

@@ -4,11 +4,11 @@ use Rattle.std.specs.Prelude.{◌==◌, Bool, Result, cond}
 use Rattle.std.specs.Option.{option_map}
 use Rattle.std.proofs.lemmas.Option.{same_Some}
 use Rattle.law_turns.specs.pr_base.declared.errno.Errno.{Errno}
-use Rattle.pt_args.specs.rv_mem.Actions.{CarriedOut, carried_out}
-use Rattle.pt_args.specs.rv_mem.Memory.{Memory}
-use Rattle.pt_args.specs.rv_mem.declared.regs.Regs.{Regs}
+use Rattle.law_edits.specs.rv_mem.Actions.{CarriedOut, carried_out}
+use Rattle.law_edits.specs.rv_mem.Memory.{Memory}
+use Rattle.law_edits.specs.rv_mem.declared.regs.Regs.{Regs}
 use Rattle.law_edits.specs.kr_view.View.{Row}
-use Rattle.pt_args.specs.kr_calls.declared.request.Request.TheVariants as call
+use Rattle.law_turns.specs.kr_calls.declared.request.Request.TheVariants as call
 use Rattle.law_edits.specs.kr_model.Applied.{Mounts, all_applied, images, with_image, with_living, with_program}
 use Rattle.law_edits.specs.kr_model.Change.{Change, CloseOnExec, OfFound, ReplaceExecutable}
 use Rattle.law_edits.specs.kr_model.State.{Image, Process, State, at_pid, process, with_process}

@@ -7,10 +7,10 @@ use Rattle.std.proofs.lemmas.List.{length-replicate}
 use Rattle.std.proofs.lemmas.Bool.{or_parts}
 use Rattle.law_turns.specs.pr_base.declared.errno.Errno.{Errno}
 use Rattle.law_turns.specs.pr_base.declared.errno.Errno.TheVariants.{EBADF, EFAULT, ENOENT, ENOSYS}
-use Rattle.pt_args.specs.rv_mem.Actions.{CarriedOut, WriteBytes, allows_uses, carried_out}
-use Rattle.pt_args.specs.rv_mem.Memory.{Memory}
-use Rattle.pt_args.specs.rv_mem.Pages.{IsWhole, any_marked}
-use Rattle.pt_args.specs.rv_mem.declared.rights.Use.TheVariants.{Write}
+use Rattle.law_edits.specs.rv_mem.Actions.{CarriedOut, WriteBytes, allows_uses, carried_out}
+use Rattle.law_edits.specs.rv_mem.Memory.{Memory}
+use Rattle.law_edits.specs.rv_mem.Pages.{IsWhole, any_marked}
+use Rattle.law_edits.specs.rv_mem.declared.rights.Use.TheVariants.{Write}
 use Rattle.law_edits.specs.kr_view.View.{Row}
 use Rattle.law_edits.specs.kr_files.declared.opened.Opened.{Opened}
 use Rattle.law_edits.specs.kr_files.declared.opened.What.{What}
@@ -18,10 +18,10 @@ use Rattle.law_edits.specs.kr_files.declared.opened.What.TheVariants as what
 use Rattle.law_edits.specs.kr_tree.declared.place.Host.{Host}
 use Rattle.law_edits.specs.kr_tree.declared.place.Host.TheVariants as host
 use Rattle.law_edits.specs.kr_tree.declared.place.Place.{Place}
-use Rattle.pt_args.specs.kr_calls.declared.request.Request.{Request}
-use Rattle.pt_args.specs.kr_calls.declared.request.Request.TheVariants as call
-use Rattle.pt_args.specs.kr_calls.declared.stat.Stat.{Stat}
-use Rattle.pt_args.specs.kr_calls.Stats.{laid, stat_fields, stat_layout}
+use Rattle.law_turns.specs.kr_calls.declared.request.Request.{Request}
+use Rattle.law_turns.specs.kr_calls.declared.request.Request.TheVariants as call
+use Rattle.law_turns.specs.kr_calls.declared.stat.Stat.{Stat}
+use Rattle.law_turns.specs.kr_calls.Stats.{laid, stat_fields, stat_layout}
 use Rattle.law_edits.specs.kr_model.Applied.{Mounts, all_applied, images, with_image}
 use Rattle.law_edits.specs.kr_model.AttributeRows.{console_stat, fstat_row, newfstatat_here, newfstatat_row, node_stat, pipe_stat, process_stat, stat_host, stat_open, stat_unplaced, tell_stat}
 use Rattle.law_edits.specs.kr_model.Asking.{descriptor_number, is_working_directory, of_number, or_closed}

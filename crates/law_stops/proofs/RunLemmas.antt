@@ -6,15 +6,15 @@ use Rattle.std.proofs.lemmas.Option.{same_Some}
 use Rattle.law_turns.specs.rv_cpu.Run.{Ran, ran}
 use Rattle.law_turns.specs.rv_cpu.declared.event.Event.{Event}
 use Rattle.law_turns.specs.rv_cpu.declared.event.Event.TheVariants.{Call, Killed, Next}
-use Rattle.pt_args.specs.rv_mem.Actions.{carried_out}
-use Rattle.pt_args.specs.rv_mem.Memory.{Memory}
-use Rattle.pt_args.specs.rv_mem.declared.regs.Regs.{Regs}
+use Rattle.law_edits.specs.rv_mem.Actions.{carried_out}
+use Rattle.law_edits.specs.rv_mem.Memory.{Memory}
+use Rattle.law_edits.specs.rv_mem.declared.regs.Regs.{Regs}
 use Rattle.law_edits.specs.pt_ident.Identity.{Effect, effect, on_memory}
 use Rattle.law_edits.specs.pt_ident.IdentityTable.{identity_at}
 use Rattle.law_edits.specs.kr_view.View.{Row, plain}
-use Rattle.pt_args.specs.kr_calls.Arguments.{number}
-use Rattle.pt_args.specs.kr_calls.Decoding.{Decoded, decoding}
-use Rattle.pt_args.specs.kr_calls.declared.request.Request.{Request}
+use Rattle.law_turns.specs.kr_calls.Arguments.{number}
+use Rattle.law_turns.specs.kr_calls.Decoding.{Decoded, decoding}
+use Rattle.law_turns.specs.kr_calls.declared.request.Request.{Request}
 use Rattle.law_edits.specs.kr_model.Lawful.{RiseFrom}
 use Rattle.law_edits.specs.kr_model.State.{Image, Process, State, process}
 use Rattle.law_turns.specs.law_kept.Bytes.{HasBytes}

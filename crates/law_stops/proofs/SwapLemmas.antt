@@ -5,20 +5,20 @@ use Rattle.std.specs.Prelude.{IsSome, get_or, nat_eq, slice_set}
 use Rattle.std.proofs.lemmas.Bool.Decides.{nat_tests}
 use Rattle.std.specs.Int.{cast_signed, w64}
 use Rattle.law_turns.proofs.pr_base.MapLemmas.{get-insert_same}
-use Rattle.pt_args.specs.rv_mem.Actions.{Action, AreEqualUnmarked, Done, WriteBytes, carried_out}
-use Rattle.pt_args.specs.rv_mem.Memory.{Memory, with_pages}
-use Rattle.pt_args.specs.rv_mem.Pages.{HoldsBytes, IsPlaced, IsWhole, Pages, written}
-use Rattle.pt_args.specs.rv_mem.declared.regs.Regs.{Regs}
-use Rattle.pt_args.specs.Laws.{ShelvesHoldTheirItems, TextsAreReadBack, poked}
-use Rattle.pt_args.specs.declared.edit.Edit.TheVariants.{Pass}
+use Rattle.law_edits.specs.rv_mem.Actions.{Action, AreEqualUnmarked, Done, WriteBytes, carried_out}
+use Rattle.law_edits.specs.rv_mem.Memory.{Memory, with_pages}
+use Rattle.law_edits.specs.rv_mem.Pages.{HoldsBytes, IsPlaced, IsWhole, Pages, written}
+use Rattle.law_edits.specs.rv_mem.declared.regs.Regs.{Regs}
+use Rattle.law_turns.specs.pt_args.Laws.{ShelvesHoldTheirItems, TextsAreReadBack, poked}
+use Rattle.law_turns.specs.pt_args.declared.edit.Edit.TheVariants.{Pass}
 use Rattle.law_turns.specs.pt_results.Notes.{noted, tags_after}
 use Rattle.law_edits.specs.kr_view.View.{plain}
-use Rattle.pt_args.specs.kr_calls.Decoding.{decoding}
+use Rattle.law_turns.specs.kr_calls.Decoding.{decoding}
 use Rattle.law_turns.specs.law_kept.Bytes.{HasBytes}
 use Rattle.law_turns.proofs.law_kept.LivingLemmas.{process-bytes}
-use Rattle.pt_args.specs.kr_calls.PathTable.{path_at}
-use Rattle.pt_args.specs.kr_calls.declared.request.Request.{Request}
-use Rattle.pt_args.specs.kr_calls.declared.request.Request.TheVariants as call
+use Rattle.law_turns.specs.kr_calls.PathTable.{path_at}
+use Rattle.law_turns.specs.kr_calls.declared.request.Request.{Request}
+use Rattle.law_turns.specs.kr_calls.declared.request.Request.TheVariants as call
 use Rattle.law_turns.proofs.law_allowed.RowLemmas.{StaysLike, stays-like}
 use Rattle.law_edits.specs.kr_model.State.{Image, Process, State}
 use Rattle.law_turns.specs.kr_turns.PlainCall.{Came}

@@ -8,12 +8,12 @@ use Rattle.law_turns.specs.pr_base.MountText.{MountText}
 use Rattle.law_turns.specs.rv_cpu.Run.{Ran, ran}
 use Rattle.law_turns.specs.rv_cpu.declared.event.Event.{Event}
 use Rattle.law_turns.specs.rv_cpu.declared.event.Event.TheVariants.{Call, Killed, Next}
-use Rattle.pt_args.specs.rv_mem.Memory.{Memory}
-use Rattle.pt_args.specs.rv_mem.declared.regs.Regs.{Regs}
+use Rattle.law_edits.specs.rv_mem.Memory.{Memory}
+use Rattle.law_edits.specs.rv_mem.declared.regs.Regs.{Regs}
 use Rattle.law_edits.specs.pt_ident.IdentityTable.{IdentityTable, after_birth, after_end}
 use Rattle.law_edits.specs.kr_view.View.{Row, plain}
-use Rattle.pt_args.specs.kr_calls.Arguments.{number}
-use Rattle.pt_args.specs.kr_calls.Decoding.{Decoded, decoding}
+use Rattle.law_turns.specs.kr_calls.Arguments.{number}
+use Rattle.law_turns.specs.kr_calls.Decoding.{Decoded, decoding}
 use Rattle.law_edits.specs.kr_model.Lawful.{RiseFrom}
 use Rattle.law_edits.specs.kr_model.State.{Image, Process, State, process}
 use Rattle.law_turns.specs.law_kept.Bytes.{HasBytes}
@@ -37,8 +37,8 @@ use Rattle.law_turns.specs.kr_stops.Watching.{unwatched}
 use Rattle.law_edits.specs.pt_faker.Stopping.{after_request, decoded_at, register_at}
 use Rattle.law_edits.specs.pt_tracer.Watched.{Tracing, after_decoding, after_pending, begin_as, begin_program, by_identities, entered, exited, give_back, has_begun, remembered_in, returned, shown_to, tracer, with_tags, without_pending}
 use Rattle.law_edits.specs.pt_tracer.declared.pending.Pending.{Pending}
-use Rattle.pt_args.specs.pt_bind.Tags.{with_tag}
-use Rattle.pt_args.specs.pt_bind.declared.slot.Slot.TheVariants.{Exe}
+use Rattle.law_edits.specs.pt_bind.Tags.{with_tag}
+use Rattle.law_edits.specs.pt_bind.declared.slot.Slot.TheVariants.{Exe}
 use Rattle.law_turns.specs.Quiet.{DropsTags, MakesNoCall}
 use Rattle.law_turns.specs.Runs.{GoTogether, KeepOn}
 use Rattle.law_turns.specs.Sizes.{AreSized}

@@ -1,10 +1,10 @@
 -- All calls where an identity is told.
 use Rattle.std.proofs.Common.{◌≡◌, Bool, true, false, List, Ok, Err, refl, sym, subst}
 use Rattle.law_edits.specs.kr_view.View.{Row}
-use Rattle.pt_args.specs.kr_calls.CallTable.{Told, ToldNothing, line}
-use Rattle.pt_args.specs.kr_calls.Decoding.{Decoded}
-use Rattle.pt_args.specs.kr_calls.declared.request.Request.{Request}
-use Rattle.pt_args.specs.kr_calls.declared.request.Request.TheVariants as call
+use Rattle.law_turns.specs.kr_calls.CallTable.{Told, ToldNothing, line}
+use Rattle.law_turns.specs.kr_calls.Decoding.{Decoded}
+use Rattle.law_turns.specs.kr_calls.declared.request.Request.{Request}
+use Rattle.law_turns.specs.kr_calls.declared.request.Request.TheVariants as call
 use Rattle.law_turns.specs.kr_stops.Stopped.{Stopped}
 use Rattle.law_turns.specs.law_kept.ImagePaths.{is_told_of_paths, tells_paths}
 use Rattle.law_edits.specs.pt_faker.Faking.{Faking}

@@ -1,8 +1,8 @@
 -- Calls along paths, where an identity is told: both kernels answer them, and what is left is what stands without an identity.
 use Rattle.std.specs.Prelude.{◌≡◌, ℕ, true, List, None, Some, Ok, Err}
 use Rattle.law_edits.specs.kr_view.View.{Row}
-use Rattle.pt_args.specs.kr_calls.Decoding.{Decoded}
-use Rattle.pt_args.specs.kr_calls.declared.request.Request.{Request}
+use Rattle.law_turns.specs.kr_calls.Decoding.{Decoded}
+use Rattle.law_turns.specs.kr_calls.declared.request.Request.{Request}
 use Rattle.law_edits.specs.kr_model.State.{Image, Process, State, process}
 use Rattle.law_turns.specs.kr_turns.PlainCall.{Came, plain_call}
 use Rattle.law_turns.specs.kr_turns.declared.plain.CallEnd.TheVariants as end

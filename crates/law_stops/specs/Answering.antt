@@ -1,9 +1,9 @@
 -- A call along paths that the tracer answers at its first stop, where the kernel with mounts answers the same and writes the same bytes.
 use Rattle.std.specs.Prelude.{◌≡◌, ℤ, true, [], Some, Ok}
-use Rattle.pt_args.specs.rv_mem.Actions.{AreEqualUnmarked}
+use Rattle.law_edits.specs.rv_mem.Actions.{AreEqualUnmarked}
 use Rattle.law_turns.specs.pt_results.Notes.{noted, tags_after}
-use Rattle.pt_args.specs.kr_calls.CallTable.{line}
-use Rattle.pt_args.specs.kr_calls.declared.request.Request.{Request}
+use Rattle.law_turns.specs.kr_calls.CallTable.{line}
+use Rattle.law_turns.specs.kr_calls.declared.request.Request.{Request}
 use Rattle.law_edits.specs.kr_model.declared.outcome.Outcome.TheVariants.{Answer}
 use Rattle.law_turns.specs.kr_turns.Target.{LooksUpOne}
 use Rattle.law_edits.specs.pt_faker.Stopping.{memory_at}

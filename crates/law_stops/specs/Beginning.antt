@@ -1,11 +1,11 @@
 -- An execve(2) with its stops, where an identity is told: the new program is told who it is on both machines.
 use Rattle.std.specs.Prelude.{◌≡◌, ℕ, Bool, false, true, List, Some, Ok}
 use Rattle.std.specs.FinMap as map
-use Rattle.pt_args.specs.rv_mem.Actions.{carried_out}
+use Rattle.law_edits.specs.rv_mem.Actions.{carried_out}
 use Rattle.law_edits.specs.pt_ident.Identity.{Identity}
 use Rattle.law_edits.specs.kr_view.View.{Row}
-use Rattle.pt_args.specs.kr_calls.declared.request.Request.{Request}
-use Rattle.pt_args.specs.kr_calls.declared.request.Request.TheVariants as call
+use Rattle.law_turns.specs.kr_calls.declared.request.Request.{Request}
+use Rattle.law_turns.specs.kr_calls.declared.request.Request.TheVariants as call
 use Rattle.law_edits.specs.kr_model.State.{Image, Process, State, process}
 use Rattle.law_turns.specs.kr_turns.PlainCall.{plain_call}
 use Rattle.law_turns.specs.kr_stops.Stopped.{Stopped}

@@ -1,6 +1,6 @@
 -- Calls with their stops, on a machine with mounts on which processes are told an identity, and on a plain one with the tracer.
 use Rattle.std.specs.Prelude.{◌≡◌, None, Some, Ok}
-use Rattle.pt_args.specs.kr_calls.declared.request.Request.{Request}
+use Rattle.law_turns.specs.kr_calls.declared.request.Request.{Request}
 use Rattle.law_turns.specs.kr_steps.Calls.{IsNoExec}
 use Rattle.law_turns.specs.kr_turns.Turn.{called}
 use Rattle.law_edits.specs.pt_ident.Identity.{Effect, effect}

@@ -1,8 +1,8 @@
 -- A call that the tracer cancels, where the kernel with mounts answers the same error.
 use Rattle.std.specs.Prelude.{◌≡◌, Ok}
 use Rattle.law_turns.specs.pr_base.declared.errno.Errno.{Errno}
-use Rattle.pt_args.specs.kr_calls.CallTable.{line}
-use Rattle.pt_args.specs.kr_calls.declared.request.Request.{Request}
+use Rattle.law_turns.specs.kr_calls.CallTable.{line}
+use Rattle.law_turns.specs.kr_calls.declared.request.Request.{Request}
 use Rattle.law_edits.specs.kr_model.Known.{known}
 use Rattle.law_edits.specs.kr_model.Operation.{operation}
 use Rattle.law_edits.specs.kr_model.Reply.{refuse}
@@ -11,7 +11,7 @@ use Rattle.law_edits.specs.kr_model.State.{image_layout}
 use Rattle.law_edits.specs.kr_model.Walks.{seen}
 use Rattle.law_turns.specs.kr_steps.Calls.{IsNoExec}
 use Rattle.law_turns.specs.kr_turns.Target.{LooksUpOne}
-use Rattle.pt_args.specs.declared.edit.Edit.TheVariants.{Cancel}
+use Rattle.law_turns.specs.pt_args.declared.edit.Edit.TheVariants.{Cancel}
 use Rattle.law_stops.specs.Scene.{IsCalm, Scene, asked, edit_there, here}
 use Rattle.law_stops.specs.Turning.{ComeToCall, StayTogether}
 

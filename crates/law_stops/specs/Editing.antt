@@ -1,7 +1,7 @@
 -- What both watchers edit at the second stop of a call that a kernel carried out, for whoever believes in another identity.
 use Rattle.std.specs.Prelude.{◌≡◌, ℕ, Bool, true, false, IsSome, List, Option, Some, None}
-use Rattle.pt_args.specs.rv_mem.Actions.{carried_out}
-use Rattle.pt_args.specs.pt_bind.Tags.{TagTable}
+use Rattle.law_edits.specs.rv_mem.Actions.{carried_out}
+use Rattle.law_edits.specs.pt_bind.Tags.{TagTable}
 use Rattle.law_edits.specs.kr_view.View.{Row}
 use Rattle.law_edits.specs.kr_model.State.{Image, State, process}
 use Rattle.law_turns.specs.kr_stops.Stopped.{Stopped}

@@ -7,7 +7,7 @@ use Rattle.law_turns.specs.law_allowed.Told.{SourcesAreNamed}
 use Rattle.law_turns.specs.law_kept.Bytes.{HasBytes}
 use Rattle.law_turns.specs.kr_steps.Calls.{LastsLawful}
 use Rattle.law_turns.specs.kr_turns.Turn.{Machine, watched_call}
-use Rattle.pt_args.specs.pt_bind.Tags.{TagTable}
+use Rattle.law_edits.specs.pt_bind.Tags.{TagTable}
 use Rattle.law_edits.specs.pt_faker.Faking.{Faking, faker}
 use Rattle.law_edits.specs.pt_tracer.Watched.{Tracing, tracer, with_identities}
 use Rattle.law_turns.specs.law_places.Matching.{IsMatch}

@@ -2,7 +2,7 @@
 -- one, too.
 use Rattle.std.specs.Prelude.{◌≡◌, ℤ, true, Option}
 use Rattle.law_turns.specs.pr_base.declared.errno.Errno.{Errno}
-use Rattle.pt_args.specs.kr_calls.declared.request.Request.{Request}
+use Rattle.law_turns.specs.kr_calls.declared.request.Request.{Request}
 use Rattle.law_turns.specs.law_kept.ImagePaths.{is_told_of_paths}
 use Rattle.law_edits.specs.pt_faker.Faking.{Faking}
 use Rattle.law_edits.specs.Requests.{NewText}

@@ -1,7 +1,10 @@
 pub use Rattle.law_edits.specs.kr_inode as kr_inode
 pub use Rattle.law_edits.specs.kr_view as kr_view
+pub use Rattle.law_edits.specs.pt_bind as pt_bind
+pub use Rattle.law_turns.specs.kr_calls as kr_calls
 pub use Rattle.law_edits.specs.kr_model as kr_model
 pub use Rattle.law_turns.specs.law_allowed as law_allowed
+pub use Rattle.law_turns.specs.pt_args as pt_args
 pub use Rattle.law_turns.specs.kr_steps as kr_steps
 pub use Rattle.law_turns.specs.kr_turns as kr_turns
 pub use Rattle.law_turns.specs.kr_stops as kr_stops

@@ -1,12 +1,12 @@
 -- What a tracer notes of calls without a path is what their changes make of the tags.
 use Rattle.std.specs.Prelude.{◌≡◌, ℕ, ℤ, List, Option, Some, None}
 use Rattle.std.specs.Int.{cast_signed, cast_unsigned, w64}
-use Rattle.pt_args.specs.rv_mem.Actions.{carried_out}
-use Rattle.pt_args.specs.rv_mem.Memory.{Memory}
-use Rattle.pt_args.specs.pt_bind.Tags.{TagTable, dropped, forked}
+use Rattle.law_edits.specs.rv_mem.Actions.{carried_out}
+use Rattle.law_edits.specs.rv_mem.Memory.{Memory}
+use Rattle.law_edits.specs.pt_bind.Tags.{TagTable, dropped, forked}
 use Rattle.law_turns.specs.pt_results.Notes.{noted, tags_after}
 use Rattle.law_edits.specs.kr_view.View.{Row}
-use Rattle.pt_args.specs.kr_calls.declared.request.Request.{Request}
+use Rattle.law_turns.specs.kr_calls.declared.request.Request.{Request}
 use Rattle.law_edits.specs.kr_model.Applied.{Mounts}
 use Rattle.law_edits.specs.kr_model.Known.{known}
 use Rattle.law_edits.specs.kr_model.Operation.{operation}

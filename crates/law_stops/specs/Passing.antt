@@ -1,7 +1,7 @@
 -- The tracer at the stops of a call without a path, where no identity is told: it lets the process be.
 use Rattle.std.specs.FinMap as map
 use Rattle.std.specs.Prelude.{◌≡◌, false, None, Some, Ok}
-use Rattle.pt_args.specs.kr_calls.declared.request.Request.{Request}
+use Rattle.law_turns.specs.kr_calls.declared.request.Request.{Request}
 use Rattle.law_turns.specs.pt_results.Notes.{noted, tags_after}
 use Rattle.law_edits.specs.pt_faker.Stopping.{IsThere, Stopped, after_request, decoded_at}
 use Rattle.law_edits.specs.pt_tracer.Planning.{nowhere}

@@ -1,8 +1,8 @@
 -- What is edited of an answer reads no marked byte, where the call broke no calm rule.
 use Rattle.std.specs.Prelude.{◌≡◌, ℕ, Bool, List, Option, None, Ok}
 use Rattle.law_edits.specs.kr_view.View.{Row}
-use Rattle.pt_args.specs.kr_calls.declared.request.Request.{Request}
-use Rattle.pt_args.specs.kr_calls.declared.request.Request.TheVariants as call
+use Rattle.law_turns.specs.kr_calls.declared.request.Request.{Request}
+use Rattle.law_turns.specs.kr_calls.declared.request.Request.TheVariants as call
 use Rattle.law_edits.specs.kr_model.State.{Image, Process, State}
 use Rattle.law_turns.specs.kr_steps.Calls.{IsNoExec}
 use Rattle.law_turns.specs.kr_turns.Breaking.{plain_rule}

@@ -1,9 +1,9 @@
 -- Two machines as a process comes to its call on both: one with mounts, and a plain one that the tracer watches.
 use Rattle.std.specs.Prelude.{◌≡◌, ℕ, Bool, List, None}
-use Rattle.pt_args.specs.declared.edit.Edit.{Edit}
-use Rattle.pt_args.specs.pt_canon.TextWalk.{TextSurroundings}
-use Rattle.pt_args.specs.kr_calls.Decoding.{Decoded}
-use Rattle.pt_args.specs.kr_calls.declared.request.Request.{Request}
+use Rattle.law_turns.specs.pt_args.declared.edit.Edit.{Edit}
+use Rattle.law_edits.specs.pt_canon.TextWalk.{TextSurroundings}
+use Rattle.law_turns.specs.kr_calls.Decoding.{Decoded}
+use Rattle.law_turns.specs.kr_calls.declared.request.Request.{Request}
 use Rattle.law_edits.specs.kr_view.View.{Row, plain}
 use Rattle.law_edits.specs.kr_model.State.{Image, State}
 use Rattle.law_turns.specs.kr_stops.Stopped.{Stopped}

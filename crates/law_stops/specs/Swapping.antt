@@ -2,12 +2,12 @@
 -- paths what the kernel with mounts is told of the old ones.
 use Rattle.std.specs.Prelude.{◌≡◌, ◌⊎◌, ℕ, ℤ, true, Option, Ok}
 use Rattle.law_turns.specs.pr_base.declared.errno.Errno.{Errno}
-use Rattle.pt_args.specs.rv_mem.Actions.{CarriedOut}
-use Rattle.pt_args.specs.declared.edit.Edit.TheVariants.{Pass}
+use Rattle.law_edits.specs.rv_mem.Actions.{CarriedOut}
+use Rattle.law_turns.specs.pt_args.declared.edit.Edit.TheVariants.{Pass}
 use Rattle.law_turns.specs.pt_results.Notes.{noted, tags_after}
 use Rattle.law_edits.specs.kr_view.View.{plain}
-use Rattle.pt_args.specs.kr_calls.CallTable.{line}
-use Rattle.pt_args.specs.kr_calls.declared.request.Request.{Request}
+use Rattle.law_turns.specs.kr_calls.CallTable.{line}
+use Rattle.law_turns.specs.kr_calls.declared.request.Request.{Request}
 use Rattle.law_turns.specs.law_allowed.Told.{mounts_walked}
 use Rattle.law_edits.specs.kr_model.Applied.{Mounts}
 use Rattle.law_edits.specs.kr_model.Bare.{bare_mounts}

@@ -3,13 +3,13 @@ use Rattle.std.specs.Prelude.{◌≡◌, ◌<◌, ◌^◌, ℕ, suc, List, IsSom
 use Rattle.law_turns.specs.pr_base.declared.errno.Errno.{Errno}
 use Rattle.law_edits.specs.kr_view.View.{Row, plain}
 use Rattle.law_edits.specs.kr_mounts.Standing.{texts_of}
-use Rattle.pt_args.specs.kr_calls.declared.request.Request.{Request}
+use Rattle.law_turns.specs.kr_calls.declared.request.Request.{Request}
 use Rattle.law_edits.specs.kr_model.State.{process}
 use Rattle.law_turns.specs.law_allowed.Told.{SourcesAreNamed}
 use Rattle.law_turns.specs.law_kept.Bytes.{HasBytes}
 use Rattle.law_turns.specs.kr_steps.Calls.{LastsLawful}
 use Rattle.law_turns.specs.kr_turns.Turn.{Machine}
-use Rattle.pt_args.specs.pt_bind.Tags.{TagTable}
+use Rattle.law_edits.specs.pt_bind.Tags.{TagTable}
 use Rattle.law_edits.specs.pt_tracer.Watched.{Tracing, tracer}
 use Rattle.law_turns.specs.Pathless.{IsPathless}
 use Rattle.law_turns.specs.Quiet.{MachinesMatch}

@@ -3,10 +3,10 @@ use Rattle.std.specs.Prelude.{◌≡◌, ℕ, Bool, true, List, Some, Ok}
 use Rattle.law_edits.specs.kr_inode.declared.user.User.{User}
 use Rattle.law_edits.specs.kr_view.View.{Row}
 use Rattle.law_edits.specs.kr_mounts.Standing.{texts_of}
-use Rattle.pt_args.specs.kr_calls.declared.request.Request.{Request}
+use Rattle.law_turns.specs.kr_calls.declared.request.Request.{Request}
 use Rattle.law_turns.specs.kr_stops.Stopped.{Stopped}
 use Rattle.law_turns.specs.law_kept.ImagePaths.{is_told_of_paths}
-use Rattle.pt_args.specs.pt_bind.Tags.{TagTable}
+use Rattle.law_edits.specs.pt_bind.Tags.{TagTable}
 use Rattle.law_edits.specs.pt_faker.Faking.{Faking, starting_faking}
 use Rattle.law_edits.specs.pt_tracer.Watched.{is_execve, starting_tracing}
 use Rattle.law_stops.specs.Scene.{Scene, asked, caller_here}

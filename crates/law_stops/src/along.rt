@@ -2,7 +2,7 @@
 ghost use Rattle.law_stops.specs.Along.{PathCallsGoTogether, PathCallsJustAnswer};
 ghost use Rattle.law_stops.specs.Kinds.{FakedAnswersGoTogether, FakedErrorsGoTogether, FakedPassesGoTogether, FakedSwapsGoTogether};
 
-use pt_args::laws;
+use law_turns::below::{shelves_hold_their_items, texts_are_read_back};
 
 /// Each kernel answers a call along paths, or one that isn't decoded, and makes no child of it.
 pub fn path_calls_just_answer()
@@ -18,8 +18,8 @@ pub fn path_calls_go_together()
 pub fn faked_swaps_go_together()
     ensures { FakedSwapsGoTogether }
 {
-    laws::texts_are_read_back();
-    laws::shelves_hold_their_items();
+    texts_are_read_back();
+    shelves_hold_their_items();
 }
 
 /// And one whose paths it leaves as they are.

@@ -35,6 +35,7 @@
 #![tactic(auto)]
 
 pub mod along;
+pub mod below;
 pub mod calling;
 pub mod editing;
 pub mod passing;

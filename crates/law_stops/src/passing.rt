@@ -6,7 +6,7 @@ ghost use Rattle.law_stops.specs.Passing.{EntriesPass, ExitsPass};
 ghost use Rattle.law_stops.specs.Swapping.{PassedCallsGoTogether, SwappedCallsGoTogether};
 ghost use Rattle.law_stops.specs.Turning.{PathlessCallsGoTogether};
 
-use pt_args::laws;
+use law_turns::below::{shelves_hold_their_items, texts_are_read_back};
 
 /// At the first stop of a call without a path the process is left as it is.
 pub fn entries_pass()
@@ -38,8 +38,8 @@ pub fn cancelled_calls_go_together<S>()
 pub fn swapped_calls_go_together<S>()
     ensures { SwappedCallsGoTogether S }
 {
-    laws::texts_are_read_back();
-    laws::shelves_hold_their_items();
+    texts_are_read_back();
+    shelves_hold_their_items();
 }
 
 /// And so does one along paths that the tracer leaves as they are.

@@ -1,4 +1,6 @@
 pub use Rattle.kr_core.proofs.pr_base as pr_base
+pub use Rattle.pt_results.proofs.rv_mem as rv_mem
+pub use Rattle.pt_results.proofs.kr_calls as kr_calls
 pub use Rattle.law_places.proofs.kr_model as kr_model
 pub use Rattle.kr_core.proofs.law_lawful as law_lawful
 pub use Rattle.kr_core.proofs.law_allowed as law_allowed

@@ -1,9 +1,11 @@
 pub use Rattle.kr_core.specs.pr_base as pr_base
 pub use Rattle.kr_core.specs.rv_cpu as rv_cpu
 pub use Rattle.law_places.specs.kr_files as kr_files
+pub use Rattle.pt_results.specs.kr_calls as kr_calls
 pub use Rattle.law_places.specs.kr_model as kr_model
 pub use Rattle.kr_core.specs.law_lawful as law_lawful
 pub use Rattle.kr_core.specs.law_allowed as law_allowed
+pub use Rattle.pt_results.specs.pt_args as pt_args
 pub use Rattle.kr_core.specs.kr_seen as kr_seen
 pub use Rattle.kr_core.specs.kr_execve as kr_execve
 pub use Rattle.law_places.specs.kr_calm as kr_calm

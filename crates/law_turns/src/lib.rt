@@ -30,6 +30,7 @@
 //! texts have the indices of their places (`texts_have_indices`).
 #![tactic(auto)]
 
+pub mod below;
 pub mod changing;
 pub mod operating;
 pub mod paths;

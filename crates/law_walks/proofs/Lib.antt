@@ -3,6 +3,7 @@ pub use Rattle.kr_mounts.proofs.kr_tree as kr_tree
 pub use Rattle.kr_mounts.proofs.kr_view as kr_view
 pub use Rattle.kr_mounts.proofs as kr_mounts
 pub use Rattle.kr_model.proofs.kr_files as kr_files
+pub use Rattle.kr_model.proofs.kr_calls as kr_calls
 pub use Rattle.kr_model.proofs as kr_model
 pub use Rattle.pt_canon.proofs.pt_bind as pt_bind
 pub mod AgreeLemmas

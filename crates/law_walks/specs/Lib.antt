@@ -5,6 +5,7 @@ pub use Rattle.kr_mounts.specs.kr_view as kr_view
 pub use Rattle.kr_mounts.specs as kr_mounts
 pub use Rattle.kr_model.specs.kr_procfs as kr_procfs
 pub use Rattle.kr_model.specs.kr_files as kr_files
+pub use Rattle.kr_model.specs.kr_calls as kr_calls
 pub use Rattle.kr_model.specs as kr_model
 pub use Rattle.pt_canon.specs.pt_bind as pt_bind
 pub use Rattle.pt_canon.specs as pt_canon

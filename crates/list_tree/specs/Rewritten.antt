@@ -1,7 +1,7 @@
 -- What the program makes of a listing.
 use Rattle.std.specs.Prelude.{◌≡◌, ℕ, true, false, List, [], Result, Ok, Err}
-use Rattle.kr_tree.specs.Tree.{Tree}
-use Rattle.kr_tree.specs.kr_inode.declared.user.User.{User}
+use Rattle.kr_text.specs.kr_tree.Tree.{Tree}
+use Rattle.kr_text.specs.kr_inode.declared.user.User.{User}
 use Rattle.kr_text.specs.declared.fault.ListFault.TheVariants.{Bad}
 use Rattle.kr_text.specs.Reading.{wants_elf, listing_of}
 use Rattle.kr_text.specs.Canonical.{canonical}

@@ -1,7 +1,7 @@
 //! Why the program gives up.
 
 use kr_text::TreeWhy;
-use pr_base::NoMemory;
+use kr_text::below::NoMemory;
 use std::fmt::{self, Display, Formatter, Write};
 
 #[derive(Drop)]

@@ -18,8 +18,8 @@ mod names;
 
 use crate::fault::Fault;
 use crate::names::{Counts, exercise};
+use kr_text::below::Bytes;
 use kr_text::{ListFault, read, wants_elf, write};
-use pr_base::Bytes;
 use std::alloc::Global;
 use std::env;
 use std::io::{Read, Write};

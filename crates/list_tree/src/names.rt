@@ -1,8 +1,8 @@
 //! Many names of one directory.
 
 use crate::fault::Fault;
-use kr_tree::{Meta, Node, ROOT, Tree, TreeRefusal, is_name};
-use pr_base::Bytes;
+use kr_text::below::Bytes;
+use kr_text::below::kr_tree::{Meta, Node, ROOT, Tree, TreeRefusal, is_name};
 use std::alloc::Global;
 
 /// How many names were added, found and removed, and how many are left.

@@ -2,16 +2,16 @@
 use Rattle.std.proofs.Common.{◌≡◌, ◌⊎◌, inl, inr, ℕ, true, false, List, None, Result, Ok, Err, refl, sym, ap, subst, ◌∙◌}
 use Rattle.std.specs.Prelude.{IfOk}
 use Rattle.std.specs.List.{AllByRecursion}
-use Rattle.pr_sources.specs.kr_tree.Lawful.{AreBytes}
-use Rattle.pr_sources.specs.kr_mounts.MountTable.{Refusal}
+use Rattle.law_machines.specs.kr_tree.Lawful.{AreBytes}
+use Rattle.law_machines.specs.kr_mounts.MountTable.{Refusal}
 use Rattle.law_machines.specs.kr_view.View.{Row}
 use Rattle.law_machines.specs.Given.{settled_in}
 use Rattle.law_machines.proofs.SourceLemmas.{read-has-options}
-use Rattle.pr_sources.specs.pr_words.declared.options.Options.{Options}
-use Rattle.pr_sources.specs.declared.answer.Answer.{Answer}
-use Rattle.pr_sources.specs.Asking.{asked}
-use Rattle.pr_sources.specs.Reading.{IsRead, read_asked}
-use Rattle.pr_sources.specs.declared.reading.Asked.{Asked}
+use Rattle.law_machines.specs.pr_words.declared.options.Options.{Options}
+use Rattle.law_machines.specs.pr_sources.declared.answer.Answer.{Answer}
+use Rattle.law_machines.specs.pr_sources.Asking.{asked}
+use Rattle.law_machines.specs.pr_sources.Reading.{IsRead, read_asked}
+use Rattle.law_machines.specs.pr_sources.declared.reading.Asked.{Asked}
 use Rattle.law_machines.specs.pr_top.Opening.{Begun, WasRead, opening, over, report}
 use Rattle.law_machines.specs.Openings.{IsToldAlike, OpeningsAgree, asked_on, over_mounts, with_tracer}
 use Rattle.law_machines.proofs.OpeningLemmas.{refusals_agree, words_begin_traced}

@@ -2,16 +2,16 @@
 use Rattle.std.proofs.Common.{◌≡◌, ◌∙◌, ◌⊎◌, inl, inr, ℕ, List, Option, Some, None, IfSome, refl, sym, subst}
 use Rattle.std.specs.Prelude.{Result, Ok, Err, IfOk}
 use Rattle.std.specs.Io.KnownBytes.{IsAtEnd}
-use Rattle.pr_sources.specs.pr_words.declared.options.Options.{Options}
-use Rattle.pr_io.specs.Drawn.{gave}
-use Rattle.pr_sources.specs.declared.answer.Answer.{Answer}
-use Rattle.pr_sources.specs.declared.answer.Answer.TheVariants.{Ended, Deadlock, Spent, Usage, TooLong, TreeBad, BadBind, NoStart, ReadFault, WriteFault, NoMemory}
-use Rattle.pr_sources.specs.declared.answer.Which.TheVariants.{Tree as TreeSource, Elf, Input, Out, Err as ErrSink, Left}
-use Rattle.pr_sources.specs.Asking.{asked}
-use Rattle.pr_sources.specs.Reading.{AllAreRead, HasCause, IsListed, IsPast, IsWanted, ReadsSources, Sources, WantsElf, read_asked, read_listing, read_tree}
-use Rattle.pr_sources.specs.Telling.{Agrees, SourcesThatTellAgree, Stage, and_told, told_asked, told_listing, told_tree}
-use Rattle.pr_sources.specs.Within.{IsEarly, and_then}
-use Rattle.pr_sources.proofs.TellingLemmas.{agrees_listing, agrees_then, agrees_tree, has}
+use Rattle.law_machines.specs.pr_words.declared.options.Options.{Options}
+use Rattle.law_machines.specs.pr_io.Drawn.{gave}
+use Rattle.law_machines.specs.pr_sources.declared.answer.Answer.{Answer}
+use Rattle.law_machines.specs.pr_sources.declared.answer.Answer.TheVariants.{Ended, Deadlock, Spent, Usage, TooLong, TreeBad, BadBind, NoStart, ReadFault, WriteFault, NoMemory}
+use Rattle.law_machines.specs.pr_sources.declared.answer.Which.TheVariants.{Tree as TreeSource, Elf, Input, Out, Err as ErrSink, Left}
+use Rattle.law_machines.specs.pr_sources.Asking.{asked}
+use Rattle.law_machines.specs.pr_sources.Reading.{AllAreRead, HasCause, IsListed, IsPast, IsWanted, ReadsSources, Sources, WantsElf, read_asked, read_listing, read_tree}
+use Rattle.law_machines.specs.pr_sources.Telling.{Agrees, SourcesThatTellAgree, Stage, and_told, told_asked, told_listing, told_tree}
+use Rattle.law_machines.specs.pr_sources.Within.{IsEarly, and_then}
+use Rattle.law_machines.proofs.pr_sources.TellingLemmas.{agrees_listing, agrees_then, agrees_tree, has}
 use Rattle.law_machines.specs.pr_top.Opening.{Begun, begun, opened_for, report}
 use Rattle.pr_call.specs.Promise.{ComesBeforeRun, IsAnswerOf, IsReadThrough, NoneFailed, NothingIsPut, Passed, Refuses, TellsOpening, TellsRun, opened_by}
 use Rattle.pr_call.specs.Telling.{HasToldCause, IsPromised, IsPromisedOfTold, OpensToldCalmly, PromisesHoldOfTold, told_by, told_opened_for}

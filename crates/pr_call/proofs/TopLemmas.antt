@@ -2,14 +2,14 @@
 use Rattle.std.proofs.Common.{◌≡◌, ◌⊎◌, ◌∙◌, inl, inr, ℕ, List, [], refl, sym, subst}
 use Rattle.std.specs.Prelude.{Result, Ok, Err}
 use Rattle.std.proofs.lemmas.List.{append-nil}
-use Rattle.pr_io.specs.Moves.{Gets, Stays}
-use Rattle.pr_sources.specs.pr_words.declared.options.Options.{Options}
-use Rattle.pr_sources.specs.declared.answer.Answer.{Answer}
-use Rattle.pr_sources.specs.declared.answer.Answer.TheVariants.{Ended, Deadlock, Spent, Usage, TooLong, TreeBad, BadBind, NoStart, ReadFault, WriteFault, NoMemory}
-use Rattle.pr_sources.specs.declared.answer.Which.{Which}
-use Rattle.pr_sources.specs.declared.answer.Which.TheVariants.{Tree as TreeSource, Elf, Input, Out, Err as ErrSink, Left}
-use Rattle.pr_sources.specs.Reading.{AllAreRead, HasCause, IsReadUpTo}
-use Rattle.pr_sources.specs.Within.{IsEarly}
+use Rattle.law_machines.specs.pr_io.Moves.{Gets, Stays}
+use Rattle.law_machines.specs.pr_words.declared.options.Options.{Options}
+use Rattle.law_machines.specs.pr_sources.declared.answer.Answer.{Answer}
+use Rattle.law_machines.specs.pr_sources.declared.answer.Answer.TheVariants.{Ended, Deadlock, Spent, Usage, TooLong, TreeBad, BadBind, NoStart, ReadFault, WriteFault, NoMemory}
+use Rattle.law_machines.specs.pr_sources.declared.answer.Which.{Which}
+use Rattle.law_machines.specs.pr_sources.declared.answer.Which.TheVariants.{Tree as TreeSource, Elf, Input, Out, Err as ErrSink, Left}
+use Rattle.law_machines.specs.pr_sources.Reading.{AllAreRead, HasCause, IsReadUpTo}
+use Rattle.law_machines.specs.pr_sources.Within.{IsEarly}
 use Rattle.law_machines.specs.pr_run.Report.{Report}
 use Rattle.law_machines.specs.pr_run.Puts.{AnswersReport, PutsReport, answer_told}
 use Rattle.law_machines.specs.pr_run.declared.turns.Stop.{Stop}

@@ -1,14 +1,14 @@
 -- The same words and bytes over mounts: what they open there, where that is calm. Without `--native` the public call answers and puts what is
 -- told of it.
 use Rattle.std.specs.Prelude.{◌≡◌, ℕ, false, List, None, Result, Ok, Err}
-use Rattle.pr_io.specs.Drawn.{gave}
+use Rattle.law_machines.specs.pr_io.Drawn.{gave}
 use Rattle.law_machines.specs.kr_view.View.{Row}
 use Rattle.law_machines.specs.Given.{settled_in}
-use Rattle.pr_sources.specs.pr_words.declared.options.Options.{Options}
-use Rattle.pr_sources.specs.declared.answer.Answer.{Answer}
-use Rattle.pr_sources.specs.Asking.{asked}
-use Rattle.pr_sources.specs.Reading.{read_asked}
-use Rattle.pr_sources.specs.declared.reading.Asked.{Asked}
+use Rattle.law_machines.specs.pr_words.declared.options.Options.{Options}
+use Rattle.law_machines.specs.pr_sources.declared.answer.Answer.{Answer}
+use Rattle.law_machines.specs.pr_sources.Asking.{asked}
+use Rattle.law_machines.specs.pr_sources.Reading.{read_asked}
+use Rattle.law_machines.specs.pr_sources.declared.reading.Asked.{Asked}
 use Rattle.law_machines.specs.pr_top.Opening.{Begun}
 use Rattle.law_machines.specs.Openings.{IsCalmRun, IsCalmStart, over_mounts}
 use Rattle.pr_call.specs.Promise.{Passed, TellsOpening}

@@ -1,13 +1,13 @@
 -- The words in which the top call says what it answers, what the sources gave, and what the sinks got.
 use Rattle.std.specs.Prelude.{◌≡◌, ◌⊎◌, ℕ, List, Result, Ok, Err}
-use Rattle.pr_io.specs.Drawn.{Received, SinkFailed, SourceFailed, drawn, gave, received}
-use Rattle.pr_io.specs.declared.sink.Sink.{Ghosts as OfSink}
-use Rattle.pr_io.specs.declared.source.Source.{Ghosts as OfSource}
-use Rattle.pr_sources.specs.declared.answer.Answer.{Answer}
-use Rattle.pr_sources.specs.declared.answer.Answer.TheVariants.{Ended, Deadlock, Spent, Usage, TooLong, TreeBad, BadBind, NoStart, ReadFault, WriteFault, NoMemory}
-use Rattle.pr_sources.specs.declared.answer.Which.TheVariants.{Out, Err as ErrSink, Left}
-use Rattle.pr_sources.specs.Reading.{AllAreRead, IsReadUpTo, Sources}
-use Rattle.pr_sources.specs.Within.{IsEarly}
+use Rattle.law_machines.specs.pr_io.Drawn.{Received, SinkFailed, SourceFailed, drawn, gave, received}
+use Rattle.law_machines.specs.pr_io.declared.sink.Sink.{Ghosts as OfSink}
+use Rattle.law_machines.specs.pr_io.declared.source.Source.{Ghosts as OfSource}
+use Rattle.law_machines.specs.pr_sources.declared.answer.Answer.{Answer}
+use Rattle.law_machines.specs.pr_sources.declared.answer.Answer.TheVariants.{Ended, Deadlock, Spent, Usage, TooLong, TreeBad, BadBind, NoStart, ReadFault, WriteFault, NoMemory}
+use Rattle.law_machines.specs.pr_sources.declared.answer.Which.TheVariants.{Out, Err as ErrSink, Left}
+use Rattle.law_machines.specs.pr_sources.Reading.{AllAreRead, IsReadUpTo, Sources}
+use Rattle.law_machines.specs.pr_sources.Within.{IsEarly}
 use Rattle.law_machines.specs.pr_run.Report.{Report}
 use Rattle.law_machines.specs.pr_run.Puts.{Got, GotNone, GotPrefix, PutsTurns, StopsBetween, StopsInCalm, StopsInErr, StopsInOut}
 use Rattle.law_machines.specs.pr_top.Opening.{Begun, opening, report}

@@ -1,18 +1,18 @@
 -- What the promises say of sources that tell what they have left: the opening of those bytes, where it is known, is answered and put.
 use Rattle.std.specs.Prelude.{◌≡◌, ◌⊎◌, ℕ, false, List, Option, Some, None, IfOk, IfSome, Result, Ok, Err}
 use Rattle.std.specs.Io.KnownBytes.{IsAtEnd}
-use Rattle.pr_sources.specs.kr_inode.declared.user.User.{User}
-use Rattle.pr_sources.specs.kr_tree.Tree.{Tree}
-use Rattle.pr_sources.specs.pr_words.declared.options.Options.{Options}
-use Rattle.pr_io.specs.Drawn.{SourceFailed}
-use Rattle.pr_sources.specs.declared.answer.Answer.{Answer}
-use Rattle.pr_sources.specs.declared.answer.Answer.TheVariants.{NoMemory, ReadFault}
-use Rattle.pr_sources.specs.declared.answer.Which.{Which}
-use Rattle.pr_sources.specs.declared.answer.Which.TheVariants.{Tree as TreeSource, Elf, Input}
-use Rattle.pr_sources.specs.Asking.{asked}
-use Rattle.pr_sources.specs.Reading.{AreDrawn, HasCause, IsPast, IsWanted, ReadsSources, Sources}
-use Rattle.pr_sources.specs.Telling.{Stage, and_told, told_asked, told_listing, told_tree}
-use Rattle.pr_sources.specs.declared.reading.Asked.{Asked}
+use Rattle.law_machines.specs.kr_inode.declared.user.User.{User}
+use Rattle.law_machines.specs.kr_tree.Tree.{Tree}
+use Rattle.law_machines.specs.pr_words.declared.options.Options.{Options}
+use Rattle.law_machines.specs.pr_io.Drawn.{SourceFailed}
+use Rattle.law_machines.specs.pr_sources.declared.answer.Answer.{Answer}
+use Rattle.law_machines.specs.pr_sources.declared.answer.Answer.TheVariants.{NoMemory, ReadFault}
+use Rattle.law_machines.specs.pr_sources.declared.answer.Which.{Which}
+use Rattle.law_machines.specs.pr_sources.declared.answer.Which.TheVariants.{Tree as TreeSource, Elf, Input}
+use Rattle.law_machines.specs.pr_sources.Asking.{asked}
+use Rattle.law_machines.specs.pr_sources.Reading.{AreDrawn, HasCause, IsPast, IsWanted, ReadsSources, Sources}
+use Rattle.law_machines.specs.pr_sources.Telling.{Stage, and_told, told_asked, told_listing, told_tree}
+use Rattle.law_machines.specs.pr_sources.declared.reading.Asked.{Asked}
 use Rattle.law_machines.specs.pr_top.Opening.{Begun, begun, case_begun, report}
 use Rattle.law_machines.specs.Openings.{over_mounts}
 use Rattle.pr_call.specs.Headline.{Headline, IsCalmOpening}

@@ -1,3 +1,5 @@
 //! What those above name of the crates below.
 
-pub use law_machines::below::{End, Kept, Written, tell};
+pub use law_machines::below::{
+    CleanSink, CleanSource, End, Kept, MemSink, MemSource, Written, tell,
+};

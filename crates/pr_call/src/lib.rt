@@ -45,6 +45,6 @@ pub mod laws;
 mod program;
 mod top;
 
-pub use pr_sources::{Answer, Which};
+pub use law_machines::below::{Answer, Which};
 pub use program::run;
 pub use top::proot;

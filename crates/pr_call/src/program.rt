@@ -1,8 +1,7 @@
 //! What the program does: it opens the files, calls the top call, and tells its answer.
 
 use crate::top::proot;
-use pr_io::{FileSink, FileSource, ReplacingSink};
-use pr_sources::Answer;
+use law_machines::below::{Answer, FileSink, FileSource, ReplacingSink};
 use std::env;
 use std::fs::{File, OpenOptions};
 use std::io::{self, ErrorKind, Write};

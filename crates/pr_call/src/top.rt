@@ -1,20 +1,18 @@
 //! The top call.
 ghost use Rattle.std.specs.Prelude.{◌≡◌, ◌⊎◌, ◌<◌, ◌^◌, Err, length, map};
 ghost use Rattle.std.specs.String.{string_bytes};
-ghost use Rattle.pr_io.specs.Drawn.{drawn};
-ghost use Rattle.pr_io.specs.Faults.{Rose};
-ghost use Rattle.pr_io.specs.Moves.{Stays};
-ghost use Rattle.pr_sources.specs.declared.answer.Which.TheVariants.{Tree, Elf, Input, Out, Err as ErrSink, Left};
-ghost use Rattle.pr_sources.specs.Asking.{asked};
-ghost use Rattle.pr_sources.specs.Reading.{AreDrawn, AsksCase, EndsBeforeElf, EndsBeforeInput, HasCause, IsListed, IsOfWords, IsRefusal, ReadsSources, WantsElf};
-ghost use Rattle.pr_sources.specs.Within.{IsAskedWithin};
+ghost use Rattle.law_machines.specs.pr_io.Drawn.{drawn};
+ghost use Rattle.law_machines.specs.pr_io.Faults.{Rose};
+ghost use Rattle.law_machines.specs.pr_io.Moves.{Stays};
+ghost use Rattle.law_machines.specs.pr_sources.declared.answer.Which.TheVariants.{Tree, Elf, Input, Out, Err as ErrSink, Left};
+ghost use Rattle.law_machines.specs.pr_sources.Asking.{asked};
+ghost use Rattle.law_machines.specs.pr_sources.Reading.{AreDrawn, AsksCase, EndsBeforeElf, EndsBeforeInput, HasCause, IsListed, IsOfWords, IsRefusal, ReadsSources, WantsElf};
+ghost use Rattle.law_machines.specs.pr_sources.Within.{IsAskedWithin};
 ghost use Rattle.pr_call.specs.Headline.{Headline};
 ghost use Rattle.pr_call.specs.Promise.{ComesBeforeRun, IsComplete, IsReadThrough, IsTold, Refuses, opened_by, passed};
 
-use law_machines::below::open;
+use law_machines::below::{Answer, Sink, Source, open};
 use law_machines::openings;
-use pr_io::{Sink, Source};
-use pr_sources::Answer;
 use std::alloc::Global;
 
 /// Reads the words, a listing of the host's tree, an ELF file where the listing names it, and an input; settles the bindings that the words

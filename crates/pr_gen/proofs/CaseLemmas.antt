@@ -4,9 +4,9 @@ use Rattle.std.specs.Prelude.{codes, nat_lt}
 use Rattle.std.specs.List.{AllByRecursion}
 use Rattle.std.proofs.lemmas.Bool.{false_from_ne_true, ltb-false, ltb-true}
 use Rattle.std.proofs.lemmas.List.{length-append}
-use Rattle.kr_tree.specs.Tree.{Tree, Directory, RegularFile}
-use Rattle.kr_tree.specs.Lawful.{AreBytes}
-use Rattle.kr_tree.specs.Changes.{file_limit, is_too_big}
+use Rattle.kr_text.specs.kr_tree.Tree.{Tree, Directory, RegularFile}
+use Rattle.kr_text.specs.kr_tree.Lawful.{AreBytes}
+use Rattle.kr_text.specs.kr_tree.Changes.{file_limit, is_too_big}
 use Rattle.kr_text.specs.Reading.{node_put}
 use Rattle.pr_gen.specs.Draws.{after, after_directories, after_files, drawn, file_bytes, length_of, letters, stepped}
 use Rattle.pr_gen.specs.Listing.{bound_lines, directory_line, directory_lines, directory_mode, directory_path, file_line, file_lines, file_mode, file_path, target_lines, target_path}

@@ -4,7 +4,7 @@ use Rattle.std.specs.Prelude.{codes, length}
 use Rattle.std.specs.Fmt.{decimal}
 use Rattle.std.proofs.lemmas.Fmt.{length-decimal-le}
 use Rattle.std.proofs.lemmas.List.{length-append}
-use Rattle.rv_table.specs.declared.instr.Instr.{Instr}
+use Rattle.rv_asm.specs.rv_table.declared.instr.Instr.{Instr}
 use Rattle.rv_asm.specs.declared.item.Item.TheVariants.{Plain}
 use Rattle.rv_asm.specs.Program.{Program}
 use Rattle.rv_asm.specs.Assembly.{first_fault}

@@ -1,3 +1,4 @@
+pub use Rattle.kr_text.proofs as kr_text
 pub mod Bounds
 pub mod Budgets
 pub mod Drafts

@@ -7,9 +7,9 @@ use Rattle.std.specs.Str.Parse.{AllDigits, digits_value}
 use Rattle.std.proofs.lemmas.Bool.{le-leb, lt-ltb, ne_eqb}
 use Rattle.std.proofs.lemmas.Fmt.{decimal_is_IsNumeral, length-decimal-le}
 use Rattle.std.proofs.lemmas.List.{length-append}
-use Rattle.kr_tree.specs.kr_inode.Names.{is_dots, is_name}
-use Rattle.kr_tree.specs.Lawful.{AreBytes}
-use Rattle.pr_base.specs.Paths.{below_root}
+use Rattle.kr_text.specs.kr_inode.Names.{is_dots, is_name}
+use Rattle.kr_text.specs.kr_tree.Lawful.{AreBytes}
+use Rattle.rv_asm.specs.pr_base.Paths.{below_root}
 use Rattle.kr_text.proofs.KeptBytes.{path_bytes}
 use Rattle.kr_text.proofs.WrittenLines.{IsPath}
 use Rattle.pr_gen.specs.Listing.{below_guest, directory_path, file_path, target_path}

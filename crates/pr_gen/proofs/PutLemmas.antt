@@ -4,13 +4,13 @@ use Rattle.std.specs.Prelude.{◌||◌, nat_le, nat_lt, is_some, if◌then◌els
 use Rattle.std.specs.FinMap as map
 use Rattle.std.specs.Option.{option_map, option_map_or, option_and_then}
 use Rattle.std.proofs.lemmas.Bool.{false_from_ne_true, leb-true, ltb-true}
-use Rattle.kr_tree.specs.Tree.{Tree, Inodes, Node, Body, inode, node, entry, entries_of, body_is, is_directory, is_listed, takes_names, bytes_of}
-use Rattle.kr_tree.specs.Names.{named, is_name}
-use Rattle.kr_tree.specs.Lawful.{AreBytes, IsKept, IsOfBytes}
-use Rattle.kr_tree.specs.Changes.{added, byte_limit, count_limit, fresh, has_no_room, is_too_big, next_standing, with_entry, with_inode, with_standing}
-use Rattle.kr_tree.proofs.AddLemmas.{kept-added, passing}
-use Rattle.kr_tree.proofs.kr_inode.BodyLemmas.{listed-is_directory, takes-is_listed}
-use Rattle.pr_base.proofs.MapLemmas.{len-changed, get-changed_other}
+use Rattle.kr_text.specs.kr_tree.Tree.{Tree, Inodes, Node, Body, inode, node, entry, entries_of, body_is, is_directory, is_listed, takes_names, bytes_of}
+use Rattle.kr_text.specs.kr_tree.Names.{named, is_name}
+use Rattle.kr_text.specs.kr_tree.Lawful.{AreBytes, IsKept, IsOfBytes}
+use Rattle.kr_text.specs.kr_tree.Changes.{added, byte_limit, count_limit, fresh, has_no_room, is_too_big, next_standing, with_entry, with_inode, with_standing}
+use Rattle.kr_text.proofs.kr_tree.AddLemmas.{kept-added, passing}
+use Rattle.kr_text.proofs.kr_inode.BodyLemmas.{listed-is_directory, takes-is_listed}
+use Rattle.kr_text.proofs.pr_base.MapLemmas.{len-changed, get-changed_other}
 use Rattle.kr_text.specs.declared.fault.TreeWhy.{TreeWhy}
 use Rattle.kr_text.specs.declared.fault.TreeWhy.TheVariants.{Twice, TooBig}
 use Rattle.kr_text.specs.Fields.{◌>>=◌}

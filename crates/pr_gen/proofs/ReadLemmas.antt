@@ -5,9 +5,9 @@ use Rattle.std.specs.Fmt.{decimal}
 use Rattle.std.specs.List.{AllByRecursion}
 use Rattle.std.proofs.lemmas.Bool.{ne_eqb}
 use Rattle.std.proofs.lemmas.List.Splits.{slice_split_at, length-slice_split}
-use Rattle.kr_tree.specs.kr_inode.declared.user.User.{User}
-use Rattle.kr_tree.specs.Tree.{Tree, RegularFile, Directory}
-use Rattle.kr_tree.specs.Changes.{new_tree}
+use Rattle.kr_text.specs.kr_inode.declared.user.User.{User}
+use Rattle.kr_text.specs.kr_tree.Tree.{Tree, RegularFile, Directory}
+use Rattle.kr_text.specs.kr_tree.Changes.{new_tree}
 use Rattle.kr_text.specs.Fields.{◌>>=◌}
 use Rattle.kr_text.specs.Lines.{line_of_fields}
 use Rattle.kr_text.specs.Canonical.{bytes_field, path_field, user_line}

@@ -6,13 +6,13 @@ use Rattle.std.specs.Option.{option_map, option_map_or}
 use Rattle.std.specs.Ordering.{nat_cmp}
 use Rattle.std.proofs.lemmas.Bool.{false_from_ne_true, ltb-true}
 use Rattle.std.proofs.lemmas.List.{append-nil}
-use Rattle.kr_tree.specs.Tree.{Tree, Inode, Node, Entry, Directory, RegularFile, entries, entries_of, is_listed, node, root}
-use Rattle.kr_tree.specs.Names.{named}
-use Rattle.kr_tree.specs.Lawful.{AreBytes, IsIn}
-use Rattle.kr_tree.specs.Changes.{file_limit, fresh, is_too_big, new_tree}
-use Rattle.kr_tree.proofs.NewLemmas.{sound-new_tree, counted-new_tree, used-new_tree}
-use Rattle.kr_tree.proofs.OfBytesLemmas.{of_bytes-new_tree}
-use Rattle.pr_base.proofs.MapLemmas.{by_key, get-insert_same, get-insert_other}
+use Rattle.kr_text.specs.kr_tree.Tree.{Tree, Inode, Node, Entry, Directory, RegularFile, entries, entries_of, is_listed, node, root}
+use Rattle.kr_text.specs.kr_tree.Names.{named}
+use Rattle.kr_text.specs.kr_tree.Lawful.{AreBytes, IsIn}
+use Rattle.kr_text.specs.kr_tree.Changes.{file_limit, fresh, is_too_big, new_tree}
+use Rattle.kr_text.proofs.kr_tree.NewLemmas.{sound-new_tree, counted-new_tree, used-new_tree}
+use Rattle.kr_text.proofs.kr_tree.OfBytesLemmas.{of_bytes-new_tree}
+use Rattle.kr_text.proofs.pr_base.MapLemmas.{by_key, get-insert_same, get-insert_other}
 use Rattle.kr_text.specs.Canonical.{user_line}
 use Rattle.kr_text.specs.Reading.{listing_of, node_put}
 use Rattle.kr_text.proofs.DepthLemmas.{entry_in, named_above}

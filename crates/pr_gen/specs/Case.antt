@@ -1,6 +1,6 @@
 -- A generated case: a tree, bindings, and a command that uses them.
 use Rattle.std.specs.Prelude.{◌≡◌, ℕ, false, List, [], ◌∷◌, codes, Ok, None}
-use Rattle.pr_base.specs.declared.bind.Bind.{Bind}
+use Rattle.rv_asm.specs.pr_base.declared.bind.Bind.{Bind}
 use Rattle.elf_write.specs.elf_read.Rules.{first_broken}
 use Rattle.kr_text.specs.Reading.{listing_of}
 use Rattle.kr_text.specs.Drawn.{IsDrawn}

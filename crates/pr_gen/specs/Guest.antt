@@ -1,8 +1,8 @@
 -- The guest of a generated case: its code, which is the same for all, and its data, the texts of its rounds.
 use Rattle.std.specs.Prelude.{ℕ, zero, suc, ◌+◌, ◌-◌, ◌*◌, ◌/◌, ◌%◌, pos, negsuc, List, [], ◌∷◌, ◌++◌, length, replicate, codes, map}
 use Rattle.std.specs.Fmt.{decimal}
-use Rattle.rv_table.specs.declared.instr.Instr.{Instr}
-use Rattle.rv_table.specs.declared.instr.Instr.TheVariants.{Addi, Add, Lui, Beq, Bne, Blt, Ecall}
+use Rattle.rv_asm.specs.rv_table.declared.instr.Instr.{Instr}
+use Rattle.rv_asm.specs.rv_table.declared.instr.Instr.TheVariants.{Addi, Add, Lui, Beq, Bne, Blt, Ecall}
 use Rattle.rv_asm.specs.declared.item.Item.TheVariants.{Plain}
 use Rattle.rv_asm.specs.Program.{Program}
 use Rattle.rv_asm.specs.Assembly.{code_of}

@@ -1,3 +1,4 @@
+pub use Rattle.kr_text.specs as kr_text
 pub mod Budget
 pub mod Draft
 pub mod Steps

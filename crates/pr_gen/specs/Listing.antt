@@ -2,7 +2,7 @@
 -- bound below that, with 256 empty files, and the guest's file.
 use Rattle.std.specs.Prelude.{ℕ, zero, suc, List, [], ◌∷◌, ◌++◌, codes}
 use Rattle.std.specs.Fmt.{decimal}
-use Rattle.kr_tree.specs.kr_inode.declared.user.User.{User}
+use Rattle.kr_text.specs.kr_inode.declared.user.User.{User}
 use Rattle.kr_text.specs.Canonical.{user_line, line, octal, path_field, bytes_field}
 use Rattle.pr_gen.specs.Draws.{file_bytes, after_files, after_directories}
 

@@ -1,6 +1,6 @@
 //! The blocks of steps.
 ghost use Rattle.std.specs.Prelude.{◌≡◌, ◌+◌, ◌<◌, ◌≤◌, ◌^◌, [], ◌∷◌, ◌++◌, None, All, length, IfOk, OnOk};
-ghost use Rattle.rv_table.specs.Encoding.{FitsWidth, IsValid};
+ghost use Rattle.rv_asm.specs.rv_table.Encoding.{FitsWidth, IsValid};
 ghost use Rattle.pr_gen.specs.Draft.{Grows, IsOpen};
 ghost use Rattle.pr_gen.specs.Steps.{IsEarlier, IsStepEarlier, room_in, step_room};
 
@@ -8,8 +8,7 @@ use crate::code::Code;
 use crate::constants::{ANSWERS, CLONE, EMPTY_LIST, SHOW_CONTENT, SHOW_NUMBER};
 use crate::instructions::{A0, A7, BUF, CLONED, RA, SP, ZERO, instr};
 use crate::steps::{Arg, ProbeStep, Show, Who};
-use pr_base::NoMemory;
-use rv_table::Instr;
+use rv_asm::below::{Instr, NoMemory};
 
 // Adds the eleven instructions that put a number together from its bits: nine, and five times eleven.
 fn load_bits(code: &mut Code, rd: u8, number: u64) -> Result<(), NoMemory>

@@ -1,13 +1,12 @@
 //! The code of a probe while it is written.
 ghost use Rattle.std.specs.Prelude.{◌≡◌, ◌+◌, ◌-◌, ◌*◌, ◌<◌, ◌≤◌, ◌^◌, [], ◌∷◌, ◌++◌, length, Some, None, All, IsSome, slice_set, IfOk, OnOk};
 ghost use Rattle.std.specs.Int.{div_ceil};
-ghost use Rattle.rv_table.specs.Encoding.{IsValid};
+ghost use Rattle.rv_asm.specs.rv_table.Encoding.{IsValid};
 ghost use Rattle.rv_asm.specs.Program.{place_of};
 ghost use Rattle.pr_gen.specs.Draft.{Draft, Grows, longer};
 
-use pr_base::{Bytes, NoMemory, PAGE_SIZE};
+use rv_asm::below::{Bytes, Instr, NoMemory, PAGE_SIZE};
 use rv_asm::{Asm, AsmFault};
-use rv_table::Instr;
 use std::alloc::Global;
 use std::marker::Model;
 

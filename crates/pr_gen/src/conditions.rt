@@ -4,7 +4,7 @@ ghost use Rattle.pr_gen.specs.Steps.{AreEarlier, IsEarlier, IsProbe, IsStepEarli
 ghost use Rattle.pr_gen.specs.Budget.{Fits, budget};
 
 use crate::steps::{Arg, ProbeStep};
-use pr_base::Texts;
+use rv_asm::below::Texts;
 
 /// The most steps.
 const MOST_STEPS: usize = 256;

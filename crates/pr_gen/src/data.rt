@@ -4,7 +4,7 @@ ghost use Rattle.pr_gen.specs.Steps.{text_room as room_of_text, texts_room, list
 
 use crate::constants::ZEROS;
 use crate::steps::{Arg, ProbeStep, text_room};
-use pr_base::Texts;
+use rv_asm::below::Texts;
 use std::alloc::{AllocError, Global};
 
 // Adds a text, and zeros behind it.

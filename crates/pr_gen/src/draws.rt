@@ -2,7 +2,7 @@
 ghost use Rattle.std.specs.Prelude.{◌≡◌, ◌<◌, IfOk, OnOk};
 ghost use Rattle.pr_gen.specs.Draws.{stepped, drawn, length_of, letters, file_bytes, after, after_file};
 
-use pr_base::NoMemory;
+use rv_asm::below::NoMemory;
 use std::alloc::Global;
 
 /// A linear congruential generator of 64 bits, whose highest bits are given.

@@ -12,8 +12,7 @@ use crate::instructions::{A0, A7, BUF, CLONED, ZERO, instr};
 use crate::showing::{put_show_content, put_show_number};
 use crate::steps::ProbeStep;
 use elf_write::write;
-use pr_base::{Bytes, NoMemory};
-use rv_table::Instr;
+use rv_asm::below::{Bytes, Instr, NoMemory};
 use std::alloc::Global;
 
 /// Where the code begins in memory.

@@ -1,7 +1,7 @@
 //! The guest's file.
 ghost use Rattle.std.specs.Prelude.{◌≡◌, ◌≤◌, ◌^◌, ◌++◌, ℕ, None, All, length, map, IfOk, OnOk};
 ghost use Rattle.elf_write.specs.elf_read.Rules.{first_broken};
-ghost use Rattle.rv_table.specs.Encoding.{IsValid};
+ghost use Rattle.rv_asm.specs.rv_table.Encoding.{IsValid};
 ghost use Rattle.rv_asm.specs.declared.item.Item.TheVariants.{Plain};
 ghost use Rattle.rv_asm.specs.Program.{Program};
 ghost use Rattle.rv_asm.specs.Assembly.{code_of};
@@ -12,9 +12,8 @@ use crate::draws::Draws;
 use crate::program::{END, READ, RENAME, SETUP};
 use crate::texts::guest_data;
 use elf_write::write;
-use pr_base::{Bytes, NoMemory};
+use rv_asm::below::{Bytes, Instr, NoMemory};
 use rv_asm::{Asm, AsmFault};
-use rv_table::Instr;
 use std::alloc::Global;
 
 /// How many bytes the buffer has: those that are read, or what stat(2) tells.

@@ -26,6 +26,7 @@
 //! three cases: `words_tests`.
 #![tactic(auto)]
 
+pub mod below;
 mod calls;
 mod code;
 mod conditions;

@@ -6,7 +6,7 @@ ghost use Rattle.pr_gen.specs.Draws.{after_files, after_directories};
 ghost use Rattle.pr_gen.specs.Listing.{head_lines, bound_lines, case_listing, directory_lines, directory_line, directory_path, elf_line, file_line, file_lines, file_path, target_lines, target_path};
 
 use crate::draws::Draws;
-use pr_base::{Bytes, NoMemory};
+use rv_asm::below::{Bytes, NoMemory};
 use std::alloc::Global;
 
 /// How many directories there are, how many files in each, and how many that are empty.

@@ -1,14 +1,14 @@
 //! A case of a fixed pattern, made from a number.
 ghost use Rattle.std.specs.Prelude.{◌≡◌, ◌≤◌, IfOk};
-ghost use Rattle.kr_tree.specs.Lawful.{AreBytes};
+ghost use Rattle.kr_text.specs.kr_tree.Lawful.{AreBytes};
 ghost use Rattle.pr_gen.specs.Case.{IsCase, bind_of, case_binds, case_command, case_root};
 
 use crate::draws::Draws;
 use crate::guest::guest;
 use crate::listing::case_listing;
+use kr_text::below::kr_tree::{Tree, User};
 use kr_text::{ListFault, read};
-use kr_tree::{Tree, User};
-use pr_base::{Bind, Bytes, NoMemory, Texts};
+use rv_asm::below::{Bind, Bytes, NoMemory, Texts};
 use std::alloc::Global;
 
 /// The parts of a case: the host's tree and its user, and what the words ask for.

@@ -1,6 +1,6 @@
 //! The guest's code, which is the same for all cases. A distance of a branch is counted in bytes, four of an instruction.
 
-use rv_table::Instr;
+use rv_asm::below::Instr;
 
 const ZERO: u8 = 0;
 

@@ -5,8 +5,7 @@ ghost use Rattle.pr_gen.specs.Draft.{Grows};
 use crate::code::Code;
 use crate::constants::{BUF_BYTES, NUMBER_LAST, SHOW_NUMBER, WRITE};
 use crate::instructions::{A0, A1, A2, A7, BUF, RA, T0, T1, T2, T3, ZERO, instr};
-use pr_base::NoMemory;
-use rv_table::Instr;
+use rv_asm::below::{Instr, NoMemory};
 
 /// The code of a newline.
 const NEWLINE: i64 = 10;

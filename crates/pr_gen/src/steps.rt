@@ -3,7 +3,7 @@
 ghost use Rattle.std.specs.Prelude.{◌≡◌, ◌+◌, ◌≤◌, ◌^◌, length};
 ghost use Rattle.pr_gen.specs.Steps as spec;
 
-use pr_base::{Bytes, Texts};
+use rv_asm::below::{Bytes, Texts};
 
 /// A step of a probe.
 #[derive(Drop)]

@@ -5,7 +5,7 @@ ghost use Rattle.pr_gen.specs.Draws.{after};
 ghost use Rattle.pr_gen.specs.Guest.{padded, round_at, round_texts, rounds};
 
 use crate::draws::Draws;
-use pr_base::NoMemory;
+use rv_asm::below::NoMemory;
 use std::alloc::Global;
 
 /// How many bytes a text has, with the zeros behind it.

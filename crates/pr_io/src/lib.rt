@@ -25,6 +25,7 @@
 //! read again, and that a file keeps what stands in it until the first put: `ground_tests`. What the system does with bytes that it took.
 #![tactic(auto)]
 
+pub mod below;
 mod calls;
 pub mod clean;
 pub mod fault;

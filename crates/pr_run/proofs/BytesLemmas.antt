@@ -1,8 +1,8 @@
 -- The bytes of turns that were put one after the other.
 use Rattle.std.proofs.Common.{◌≡◌, inl, inr, ℕ, zero, suc, ◌≤◌, List, [], ◌∷◌, ◌++◌, take, drop, Some, refl, sym, ap, subst, ◌∙◌, arith, append_assoc, slice_get}
 use Rattle.std.proofs.lemmas.List.{append-nil}
-use Rattle.pr_io.specs.Faults.{Rose}
-use Rattle.pr_io.specs.Moves.{Gets, GetsPrefix, Stays}
+use Rattle.pr_sources.specs.pr_io.Faults.{Rose}
+use Rattle.pr_sources.specs.pr_io.Moves.{Gets, GetsPrefix, Stays}
 use Rattle.kr_core.specs.kr_turns.Run.{Put}
 use Rattle.pr_run.specs.Report.{gathered}
 

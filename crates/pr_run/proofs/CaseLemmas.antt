@@ -3,7 +3,7 @@ use Rattle.std.proofs.Common.{◌≡◌, ◌≢◌, ◌&&◌, ℕ, Bool, true, f
 use Rattle.std.proofs.lemmas.Bool.Decides.{Decides-eqb, same_from_decides}
 use Rattle.std.specs.Prelude.{◌↔◌, Result, Err}
 use base.Stored.{Gv, gnil, gnum, gcons}
-use Rattle.pr_io.specs.Drawn.{Received}
+use Rattle.pr_sources.specs.pr_io.Drawn.{Received}
 use Rattle.pr_sources.specs.declared.answer.Answer.{Answer}
 use Rattle.pr_sources.specs.declared.answer.Answer.TheVariants as answer
 use Rattle.pr_sources.specs.declared.answer.Answer.TheVariants.{NoMemory}

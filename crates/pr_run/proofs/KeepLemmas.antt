@@ -2,7 +2,7 @@
 use Rattle.std.proofs.Common.{◌≡◌, ℕ, zero, suc, ◌+◌, ◌<◌, List, [], ◌∷◌, ◌++◌, take, length, refl, sym, ap, ◌∙◌, arith, get_or, length-append}
 use Rattle.std.proofs.Math.Seq.{take-suc}
 use Rattle.std.proofs.lemmas.List.{append-nil}
-use Rattle.kr_tree.specs.Tree.{nodes}
+use Rattle.pr_sources.specs.kr_tree.Tree.{nodes}
 use Rattle.kr_core.specs.kr_turns.Run.{Ending, Put, Ran}
 use Rattle.kr_core.specs.kr_turns.Turn.{Machine}
 use Rattle.pr_run.specs.Case.{Outcome, outcome}

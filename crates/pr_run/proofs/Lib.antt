@@ -1,3 +1,5 @@
+pub use Rattle.pr_sources.proofs.pr_words as pr_words
+pub use Rattle.pr_sources.proofs as pr_sources
 pub mod BytesLemmas
 pub mod RunLemmas
 pub mod TurnLemmas

@@ -2,8 +2,8 @@
 use Rattle.std.proofs.Common.{◌≡◌, ◌≤◌, inl, inr, ℕ, List, length, take, sym, subst, arith}
 use Rattle.std.specs.Prelude.{Err}
 use Rattle.std.proofs.lemmas.List.{take_all}
-use Rattle.pr_io.specs.Drawn.{Received}
-use Rattle.pr_io.specs.Moves.{Gets}
+use Rattle.pr_sources.specs.pr_io.Drawn.{Received}
+use Rattle.pr_sources.specs.pr_io.Moves.{Gets}
 use Rattle.pr_run.specs.Report.{Report, errs, outs}
 use Rattle.pr_run.specs.Puts.{Got, GotNone, PutsCalm, PutsListing, PutsTurns, StopsReport}
 use Rattle.pr_run.specs.declared.turns.Stop.{Stop}

@@ -2,9 +2,9 @@
 use Rattle.std.proofs.Common.{◌≡◌, inl, inr, ℕ, zero, suc, ◌-◌, ◌<◌, ◌≤◌, List, ◌++◌, take, drop, Some, None, refl, sym, ap, subst, ◌∙◌, arith, take-append-drop}
 use Rattle.std.specs.Option.{option_map_or}
 use Rattle.std.proofs.lemmas.List.{append-nil}
-use Rattle.pr_io.specs.Drawn.{Received, SinkFailed}
-use Rattle.pr_io.specs.Moves.{Gets}
-use Rattle.kr_view.specs.View.{Row}
+use Rattle.pr_sources.specs.pr_io.Drawn.{Received, SinkFailed}
+use Rattle.pr_sources.specs.pr_io.Moves.{Gets}
+use Rattle.kr_core.specs.kr_view.View.{Row}
 use Rattle.kr_core.specs.kr_turns.Run.{Ending, Put, Ran, Slot, Spent, after_put, ended, ending_of, put_by, run, run_from, turned, with_put}
 use Rattle.kr_core.specs.kr_turns.Turn.{Machine}
 use Rattle.kr_core.specs.kr_stops.Watching.{Watcher}

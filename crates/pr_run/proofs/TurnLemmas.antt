@@ -6,7 +6,7 @@ use Rattle.kr_core.specs.kr_turns.Steps.{goes_on, picked_process}
 use Rattle.kr_core.specs.Kernel.{Clears, Kernel, machine_by}
 use Rattle.kr_core.specs.kr_turns.Run.{Deadlock, Ending, Over, Put, after_put, ending_of, if_any}
 use Rattle.kr_core.specs.kr_turns.Turn.{Machine}
-use Rattle.pr_io.specs.Drawn.{Received}
+use Rattle.pr_sources.specs.pr_io.Drawn.{Received}
 use Rattle.pr_run.specs.Puts.{StopsMaking, StopsTurn}
 use Rattle.pr_run.specs.declared.turns.Stop.{Stop}
 use Rattle.pr_run.specs.declared.turns.Stop.TheVariants as stop

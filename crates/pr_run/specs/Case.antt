@@ -3,10 +3,10 @@ use Rattle.std.specs.Prelude.{◌≡◌, ℕ, zero, suc, ◌-◌, ◌==◌, Bool
 use Rattle.std.specs.FinMap as map
 use Rattle.std.specs.Coded.{Coded, code_by, coded×, coded_ℕ, coded_list}
 use Rattle.std.specs.Fmt.{decimal}
-use Rattle.kr_tree.specs.kr_inode.Inode.{node_code}
-use Rattle.kr_tree.specs.kr_inode.declared.user.User.{User}
-use Rattle.kr_tree.specs.Tree.{Nodes, nodes}
-use Rattle.kr_text.specs.Canonical.{canonical}
+use Rattle.pt_tracer.specs.kr_inode.Inode.{node_code}
+use Rattle.pt_tracer.specs.kr_inode.declared.user.User.{User}
+use Rattle.pr_sources.specs.kr_tree.Tree.{Nodes, nodes}
+use Rattle.pr_sources.specs.kr_text.Canonical.{canonical}
 use Rattle.kr_core.specs.kr_turns.Run.{Deadlock, Ending, Over, Put, Ran, Spent}
 use Rattle.pr_sources.specs.declared.answer.Answer.TheVariants as answer
 use Rattle.pr_run.specs.Alike.{alike}

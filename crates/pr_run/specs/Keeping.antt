@@ -1,13 +1,13 @@
 -- What is kept of a run: the bytes of each turn, how it ended, and the status. The tree stays in its kernel.
 use Rattle.std.specs.Prelude.{◌≡◌, ℕ, List, [], ◌∷◌, ◌++◌, map, Some, None}
-use Rattle.kr_tree.specs.Tree.{Tree, nodes}
-use Rattle.kr_view.specs.View.{Row}
+use Rattle.pr_sources.specs.kr_tree.Tree.{Tree, nodes}
+use Rattle.kr_core.specs.kr_view.View.{Row}
 use Rattle.kr_core.specs.declared.kernel.Turned.{Turned}
 use Rattle.kr_core.specs.declared.kernel.Turned.TheVariants as turned
 use Rattle.kr_core.specs.kr_turns.Run.{Deadlock, Over, Put, after_put, ending_of, put_by}
 use Rattle.kr_core.specs.kr_turns.Turn.{Machine}
 use Rattle.kr_core.specs.kr_stops.Watching.{Watcher}
-use Rattle.pr_words.specs.declared.options.Slot.{Slot}
+use Rattle.pr_sources.specs.pr_words.declared.options.Slot.{Slot}
 use Rattle.pr_sources.specs.declared.answer.Answer.TheVariants as answer
 use Rattle.pr_run.specs.Case.{Outcome}
 use Rattle.pr_run.specs.Puts.{after_slot, end_told}

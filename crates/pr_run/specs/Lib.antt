@@ -1,3 +1,6 @@
+pub use Rattle.pr_sources.specs.pr_io as pr_io
+pub use Rattle.pr_sources.specs.kr_mounts as kr_mounts
+pub use Rattle.pr_sources.specs as pr_sources
 pub mod Slots
 pub mod Report
 pub mod Puts

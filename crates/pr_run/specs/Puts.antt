@@ -1,15 +1,15 @@
 -- What is put of a run: all of it, or what stands where a sink failed or memory ran out.
 use Rattle.std.specs.Prelude.{◌≡◌, ◌≢◌, ◌⊎◌, ℕ, suc, ◌-◌, true, List, [], ◌++◌, take, slice_get, Some, None, Result, Ok, Err}
-use Rattle.pr_io.specs.Drawn.{Received, SinkFailed}
-use Rattle.pr_io.specs.Moves.{Gets, GetsPrefix, Stays}
-use Rattle.kr_view.specs.View.{Row}
+use Rattle.pr_sources.specs.pr_io.Drawn.{Received, SinkFailed}
+use Rattle.pr_sources.specs.pr_io.Moves.{Gets, GetsPrefix, Stays}
+use Rattle.kr_core.specs.kr_view.View.{Row}
 use Rattle.kr_core.specs.Kernel.{Kernel}
 use Rattle.kr_core.specs.declared.kernel.Turned.{Turned}
 use Rattle.kr_core.specs.declared.kernel.Turned.TheVariants as turned
 use Rattle.kr_core.specs.kr_turns.Run.{Deadlock, Ending, Over, Put, Ran, Spent, after_put, ending_of, put_by}
 use Rattle.kr_core.specs.kr_turns.Turn.{Machine, turn}
 use Rattle.kr_core.specs.kr_stops.Watching.{Watcher}
-use Rattle.pr_words.specs.declared.options.Slot.{Slot}
+use Rattle.pr_sources.specs.pr_words.declared.options.Slot.{Slot}
 use Rattle.pr_sources.specs.declared.answer.Answer.{Answer}
 use Rattle.pr_sources.specs.declared.answer.Answer.TheVariants as answer
 use Rattle.pr_sources.specs.declared.answer.Which.TheVariants as which

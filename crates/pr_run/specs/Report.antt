@@ -2,7 +2,7 @@
 use Rattle.std.specs.Prelude.{ℕ, Bool, List, [], ◌∷◌, ◌++◌, codes, Option, Some, None, if◌then◌else◌}
 use Rattle.std.specs.Option.{option_map, option_map_or}
 use Rattle.std.specs.Fmt.{decimal}
-use Rattle.kr_text.specs.Canonical.{canonical}
+use Rattle.pr_sources.specs.kr_text.Canonical.{canonical}
 pub use Rattle.kr_core.specs.kr_turns.Run.{Deadlock, Ending, Over, Spent}
 use Rattle.kr_core.specs.kr_turns.Run.{Put, Ran, ending_of}
 use Rattle.kr_core.specs.kr_turns.Turn.{Machine}

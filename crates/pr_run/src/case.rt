@@ -1,8 +1,8 @@
 //! A generated case: both machines run it, and their outcomes are compared.
 ghost use Rattle.std.specs.Prelude.{◌≡◌, IfOk};
 ghost use Rattle.std.specs.String.{string_bytes};
-ghost use Rattle.pr_io.specs.Drawn.{received};
-ghost use Rattle.kr_text.specs.Canonical.{canonical};
+ghost use Rattle.pr_sources.specs.pr_io.Drawn.{received};
+ghost use Rattle.pr_sources.specs.kr_text.Canonical.{canonical};
 ghost use Rattle.pr_run.specs.Case.{agree, case_report_of, end_words, lines, status_by, summary, summary_lines, told_of, yes_or_no};
 ghost use Rattle.pr_run.specs.Keeping.{kept_told, puts_told, report_told};
 ghost use Rattle.pr_run.specs.Puts.{AnswersCase, PutsCase, end_told};
@@ -12,12 +12,9 @@ use crate::keeping::{Kept, keep, output, same};
 use crate::plan::Plan;
 use crate::turns::{End, Stop, put_some};
 use kr_core::Kernel;
-use kr_text::write;
-use kr_tree::{Tree, User};
-use kr_view::Places;
-use pr_base::{Bytes, NoMemory};
-use pr_io::{PutFault, Sink};
+use kr_core::below::Places;
 use pr_sources::Answer;
+use pr_sources::below::{Bytes, NoMemory, PutFault, Sink, Tree, User, write};
 use pt_tracer::Graphed;
 use std::alloc::Global;
 

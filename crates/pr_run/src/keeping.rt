@@ -11,11 +11,9 @@ ghost use Rattle.pr_run.specs.Slots.{HasNoTurn, IsPlan, run_of};
 use crate::laws::parts_turn;
 use crate::plan::Plan;
 use crate::turns::{End, end_after};
+use kr_core::below::Places;
 use kr_core::{Kernel, Turned};
-use kr_tree::Tree;
-use kr_view::Places;
-use pr_base::{Bytes, NoMemory};
-use pr_words::Slot;
+use pr_sources::below::{Bytes, NoMemory, Slot, Tree};
 use pt_tracer::Graphed;
 use std::alloc::Global;
 

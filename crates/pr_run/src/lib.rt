@@ -18,6 +18,7 @@
 //! tree.
 #![tactic(auto)]
 
+pub mod below;
 mod case;
 mod keeping;
 pub mod laws;

@@ -2,8 +2,7 @@
 ghost use Rattle.std.specs.Prelude.{◌≡◌, ◌≤◌, ◌<◌, ◌^◌};
 ghost use Rattle.pr_run.specs.Slots.{IsPlan, slot_of};
 
-use kr_tree::User;
-use pr_words::{Slot, Slots};
+use pr_sources::below::{Slot, Slots, User};
 
 /// How many instructions a turn makes at most where no schedule is given.
 const FUEL: u32 = 1000;

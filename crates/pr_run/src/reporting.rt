@@ -1,8 +1,8 @@
 //! The report of a run.
 ghost use Rattle.std.specs.Prelude.{◌≡◌, ◌≤◌, IfOk};
-ghost use Rattle.pr_io.specs.Drawn.{received};
+ghost use Rattle.pr_sources.specs.pr_io.Drawn.{received};
 ghost use Rattle.kr_core.specs.Kernel.{machine};
-ghost use Rattle.kr_text.specs.Canonical.{canonical};
+ghost use Rattle.pr_sources.specs.kr_text.Canonical.{canonical};
 ghost use Rattle.pr_run.specs.Report.{answer_of, calm_line, calm_told, report_of};
 ghost use Rattle.pr_run.specs.Puts.{AnswersReport, PutsCalm, PutsListing, PutsReport, end_told};
 ghost use Rattle.pr_run.specs.Slots.{HasNoTurn, IsPlan, run_of};
@@ -10,11 +10,9 @@ ghost use Rattle.pr_run.specs.Slots.{HasNoTurn, IsPlan, run_of};
 use crate::plan::Plan;
 use crate::turns::{End, Stop, put_some, run_turns};
 use kr_core::Kernel;
-use kr_text::write;
-use kr_view::Places;
-use pr_base::{Bytes, NoMemory};
-use pr_io::{PutFault, Sink};
+use kr_core::below::Places;
 use pr_sources::Answer;
+use pr_sources::below::{Bytes, NoMemory, PutFault, Sink, write};
 use pt_tracer::Graphed;
 use std::alloc::Global;
 

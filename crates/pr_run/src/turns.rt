@@ -1,8 +1,8 @@
 //! The turns of a run, each with its bytes.
 ghost use Rattle.std.specs.Prelude.{◌≡◌, ◌≢◌, ◌<◌, ◌≤◌, ◌^◌, [], true, IfOk, OnOk, IsErrOf};
-ghost use Rattle.pr_io.specs.Drawn.{received};
-ghost use Rattle.pr_io.specs.Faults.{Rose};
-ghost use Rattle.pr_io.specs.Moves.{Puts};
+ghost use Rattle.pr_sources.specs.pr_io.Drawn.{received};
+ghost use Rattle.pr_sources.specs.pr_io.Faults.{Rose};
+ghost use Rattle.pr_sources.specs.pr_io.Moves.{Puts};
 ghost use Rattle.kr_core.specs.Kernel.{Clears, machine, machine_by};
 ghost use Rattle.kr_core.specs.kr_turns.Run.{put_by};
 ghost use Rattle.pr_run.specs.Puts.{GoesOn, MakesTurn, PutsRun, PutsTurn, end_told};
@@ -11,11 +11,10 @@ ghost use Rattle.pr_run.specs.Slots.{HasNoTurn, IsPlan, run_of};
 
 use crate::laws::parts_turn;
 use crate::plan::Plan;
+use kr_core::below::Places;
 use kr_core::{Kernel, Turned};
-use kr_view::Places;
-use pr_io::{PutFault, Sink};
+use pr_sources::below::{PutFault, Sink, Slot};
 use pr_sources::{Answer, Which};
-use pr_words::Slot;
 use pt_tracer::Graphed;
 
 /// Why a report stopped early: a sink failed, or memory ran out.

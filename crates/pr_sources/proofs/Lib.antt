@@ -1,4 +1,3 @@
-pub use Rattle.kr_text.proofs as kr_text
 pub use Rattle.pr_words.proofs as pr_words
 pub mod DrawnLemmas
 pub mod StageLemmas

@@ -5,9 +5,9 @@ use Rattle.std.proofs.lemmas.List.{append-nil}
 use Rattle.std.specs.Prelude.{Result, Ok, Err}
 use Rattle.std.specs.Io.KnownBytes.{Consumes, IsAtEnd}
 use Rattle.pr_words.specs.declared.options.Options.{Options}
-use Rattle.kr_tree.specs.kr_inode.declared.user.User.{User}
-use Rattle.kr_tree.specs.Tree.{Tree}
-use Rattle.kr_text.specs.Reading.{wants_elf}
+use Rattle.kr_start.specs.kr_inode.declared.user.User.{User}
+use Rattle.kr_start.specs.kr_tree.Tree.{Tree}
+use Rattle.kr_start.specs.kr_text.Reading.{wants_elf}
 use Rattle.pr_io.specs.Drawn.{Drawn, IsDrawn, IsWhole, gave}
 use Rattle.pr_sources.specs.declared.answer.Answer.{Answer}
 use Rattle.pr_sources.specs.declared.answer.Answer.TheVariants.{Ended, Deadlock, Spent, Usage, TooLong, TreeBad, BadBind, NoStart, ReadFault, WriteFault, NoMemory}

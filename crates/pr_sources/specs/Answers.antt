@@ -1,7 +1,7 @@
 -- The status and the line of each answer.
 use Rattle.std.specs.Prelude.{ℕ, List, [], ◌∷◌, ◌++◌, codes}
 use Rattle.std.specs.Fmt.{decimal}
-use Rattle.pr_base.specs.Errno.{errno_number}
+use Rattle.pr_io.specs.pr_base.Errno.{errno_number}
 use Rattle.pr_sources.specs.Names.{bind_rule, tree_rule, which_name, word_rule}
 use Rattle.pr_sources.specs.declared.answer.Answer.{Answer}
 use Rattle.pr_sources.specs.declared.answer.Answer.TheVariants.{Ended, Deadlock, Spent, Usage, TooLong, TreeBad, BadBind, NoStart, ReadFault, WriteFault, NoMemory}

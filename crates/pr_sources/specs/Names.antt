@@ -1,9 +1,9 @@
 -- The names by which the last line calls objects and rules: those of the variants.
 use Rattle.std.specs.Prelude.{ℕ, List, codes}
-use Rattle.kr_mounts.specs.declared.fault.BindWhy.{BindWhy}
-use Rattle.kr_mounts.specs.declared.fault.BindWhy.TheVariants.{NoSource, NoPoint, Kind, LinkOnTheWay, RootNotDir, AtRoot}
-use Rattle.kr_text.specs.declared.fault.TreeWhy.{TreeWhy}
-use Rattle.kr_text.specs.declared.fault.TreeWhy.TheVariants.{Form, Number, Name, NoParent, Twice as TwiceNamed, NoTarget, RootUser, NoUser, NoRoot, TwoElf, TooBig}
+use Rattle.kr_start.specs.kr_mounts.declared.fault.BindWhy.{BindWhy}
+use Rattle.kr_start.specs.kr_mounts.declared.fault.BindWhy.TheVariants.{NoSource, NoPoint, Kind, LinkOnTheWay, RootNotDir, AtRoot}
+use Rattle.kr_start.specs.kr_text.declared.fault.TreeWhy.{TreeWhy}
+use Rattle.kr_start.specs.kr_text.declared.fault.TreeWhy.TheVariants.{Form, Number, Name, NoParent, Twice as TwiceNamed, NoTarget, RootUser, NoUser, NoRoot, TwoElf, TooBig}
 use Rattle.pr_words.specs.declared.fault.Why.{Why}
 use Rattle.pr_words.specs.declared.fault.Why.TheVariants.{Unknown, NoValue, BadNumber, BadSchedule, BadBind, BadEnv, Twice, CalmAlone, CaseAlone, ZeroByte, BadId}
 use Rattle.pr_sources.specs.declared.answer.Which.{Which}

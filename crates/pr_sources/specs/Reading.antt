@@ -3,13 +3,13 @@
 -- Words that ask for a generated case read no source.
 use Rattle.std.specs.Prelude.{◌≡◌, ℕ, ◌+◌, IsTrue, IsSome, List, [], length, None, Result, Ok, Err, if◌then◌else◌}
 use Rattle.pr_words.specs.declared.options.Options.{Options}
-use Rattle.kr_tree.specs.kr_inode.declared.user.User.{User}
-use Rattle.kr_tree.specs.Lawful.{AreBytes, IsKept}
-use Rattle.kr_tree.specs.Tree.{Tree}
+use Rattle.kr_start.specs.kr_inode.declared.user.User.{User}
+use Rattle.kr_start.specs.kr_tree.Lawful.{AreBytes, IsKept}
+use Rattle.kr_start.specs.kr_tree.Tree.{Tree}
 use Rattle.kr_start.specs.Ready.{IsOfListing}
-use Rattle.kr_text.specs.Reading.{listing_of, wants_elf}
-use Rattle.kr_text.specs.declared.fault.ListFault.{ListFault}
-use Rattle.kr_text.specs.declared.fault.ListFault.TheVariants as fault
+use Rattle.kr_start.specs.kr_text.Reading.{listing_of, wants_elf}
+use Rattle.kr_start.specs.kr_text.declared.fault.ListFault.{ListFault}
+use Rattle.kr_start.specs.kr_text.declared.fault.ListFault.TheVariants as fault
 use Rattle.pr_io.specs.Drawn.{Drawn, IsDrawn, IsWhole, SourceFailed, gave}
 use Rattle.pr_sources.specs.declared.answer.Which.{Which}
 use Rattle.pr_sources.specs.declared.answer.Which.TheVariants.{Tree as TreeSource, Elf, Input}

@@ -2,9 +2,9 @@
 use Rattle.std.specs.Prelude.{◌≡◌, ◌⊎◌, ℕ, false, List, [], Option, Some, None, IfSome, Result, Ok, Err, if◌then◌else◌}
 use Rattle.std.specs.Option.{option_map}
 use Rattle.pr_words.specs.declared.options.Options.{Options}
-use Rattle.kr_tree.specs.kr_inode.declared.user.User.{User}
-use Rattle.kr_tree.specs.Tree.{Tree}
-use Rattle.kr_text.specs.Reading.{wants_elf}
+use Rattle.kr_start.specs.kr_inode.declared.user.User.{User}
+use Rattle.kr_start.specs.kr_tree.Tree.{Tree}
+use Rattle.kr_start.specs.kr_text.Reading.{wants_elf}
 use Rattle.pr_io.specs.Drawn.{gave}
 use Rattle.pr_sources.specs.declared.answer.Which.{Which}
 use Rattle.pr_sources.specs.declared.answer.Which.TheVariants.{Tree as TreeSource, Elf, Input}

@@ -5,9 +5,8 @@ ghost use Rattle.pr_sources.specs.Answers.{line_of};
 ghost use Rattle.pr_sources.specs.Names.{which_name};
 
 use crate::why::{BindRule, TreeRule, WordRule};
-use kr_mounts::BindWhy;
-use kr_text::TreeWhy;
-use pr_base::{Bytes, Errno, NoMemory};
+use kr_start::below::{BindWhy, TreeWhy};
+use pr_io::below::{Bytes, Errno, NoMemory};
 use pr_words::Why;
 use std::alloc::Global;
 use std::fmt;

@@ -30,6 +30,7 @@
 #![tactic(auto)]
 
 mod answer;
+pub mod below;
 pub mod laws;
 mod reading;
 mod why;

@@ -3,8 +3,8 @@ ghost use Rattle.std.specs.Prelude.{◌≡◌, ◌⊎◌, ◌^◌, ℕ, List, fa
 ghost use Rattle.std.specs.Option.{option_copied, unwrap_or};
 ghost use Rattle.pr_io.specs.Drawn.{Drawn, IsDrawn, IsWhole, drawn, gave};
 ghost use Rattle.pr_words.specs.Sound.{AreSound};
-ghost use Rattle.kr_text.specs.Reading.{wants_elf};
-ghost use Rattle.kr_tree.specs.Lawful.{AreBytes, IsKept};
+ghost use Rattle.kr_start.specs.kr_text.Reading.{wants_elf};
+ghost use Rattle.kr_start.specs.kr_tree.Lawful.{AreBytes, IsKept};
 ghost use Rattle.kr_start.specs.Ready.{IsOfListing};
 ghost use Rattle.pr_sources.specs.Asking.{IsUnlessNoMemory};
 ghost use Rattle.pr_sources.specs.declared.answer.Which.TheVariants.{Elf};
@@ -13,11 +13,9 @@ ghost use Rattle.pr_sources.specs.Within.{ComesTo, IsAskedWithin, IsReadRefusal}
 
 use crate::within::read_within;
 use crate::{Answer, Which};
-use kr_text::{ListFault, wants_elf};
-use kr_tree::laws::trees_are_kept;
-use kr_tree::{Tree, User};
-use pr_base::Bytes;
+use kr_start::below::{ListFault, Tree, User, trees_are_kept, wants_elf};
 use pr_io::Source;
+use pr_io::below::Bytes;
 use pr_words::Options;
 use std::alloc::Global;
 
@@ -60,7 +58,7 @@ fn list(alloc: Global, listing: &[u8], file: Option<&[u8]>) -> Result<(Tree, Use
     ensures listing { IsUnlessNoMemory (listed (unwrap_or (option_copied file.entry) []) listing.now) result }
     ensures read { IfOk result (λ read. IsOfListing read.0 read.1) }
 {
-    match kr_text::read(alloc, listing, file) {
+    match kr_start::below::read(alloc, listing, file) {
         Ok(read) => Ok(read),
         Err(ListFault::Bad { line, why }) => Err(Answer::TreeBad { line, why }),
         Err(ListFault::NoMemory) => Err(Answer::NoMemory),

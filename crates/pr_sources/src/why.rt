@@ -2,8 +2,7 @@
 ghost use Rattle.std.specs.Prelude.{Some};
 ghost use Rattle.pr_sources.specs.Names.{bind_rule, tree_rule, word_rule};
 
-use kr_mounts::BindWhy;
-use kr_text::TreeWhy;
+use kr_start::below::{BindWhy, TreeWhy};
 use pr_words::Why;
 use std::fmt;
 

@@ -4,8 +4,8 @@ ghost use Rattle.pr_io.specs.Drawn.{Gave, IsDrawn, IsWhole, drawn, gave};
 ghost use Rattle.pr_sources.specs.Within.{ComesTo, IsAskedWithin, IsReadEnd, IsReadRefusal, ReadsWithin, within};
 
 use crate::{Answer, Which};
-use pr_base::Bytes;
 use pr_io::Source;
+use pr_io::below::Bytes;
 use std::alloc::Global;
 
 /// Reads a source to its end, or until `limit` bytes were read.

@@ -1,27 +1,27 @@
 -- A start in its steps, and the kernel that begins by it.
 use Rattle.std.proofs.Common.{◌≡◌, ℕ, List, Option, Some, sym, ap, ◌∙◌}
 use Rattle.std.specs.Prelude.{Result, Ok, Err}
-use Rattle.pr_base.specs.declared.errno.Errno.{Errno}
-use Rattle.kr_tree.specs.kr_inode.declared.user.User.{User}
-use Rattle.kr_tree.specs.Tree.{Tree}
-use Rattle.kr_view.specs.declared.target.Reach.{Reach}
-use Rattle.kr_view.specs.View.{Row}
-use Rattle.kr_start.specs.kr_model.State.{Image, State}
-use Rattle.kr_start.specs.kr_model.Walks.{and_then}
+use Rattle.pt_tracer.specs.pr_base.declared.errno.Errno.{Errno}
+use Rattle.pt_tracer.specs.kr_inode.declared.user.User.{User}
+use Rattle.kr_core.specs.kr_tree.Tree.{Tree}
+use Rattle.kr_core.specs.kr_view.declared.target.Reach.{Reach}
+use Rattle.kr_core.specs.kr_view.View.{Row}
+use Rattle.kr_core.specs.kr_model.State.{Image, State}
+use Rattle.kr_core.specs.kr_model.Walks.{and_then}
 use Rattle.kr_core.specs.kr_first.declared.starting.StartFault.{StartFault}
 use Rattle.kr_core.specs.kr_first.declared.starting.StartFault.TheVariants as fault
 use Rattle.kr_core.specs.Runs.{Machine}
 use Rattle.kr_core.specs.kr_turns.kr_calm.declared.rule.Rule.{Rule}
 use Rattle.pt_tracer.specs.pt_faker.declared.watch.Watch.{Watch}
 use Rattle.kr_core.specs.Kernel.{Kernel, Starts, StartsJudged, machine}
-use Rattle.kr_mounts.specs.declared.mount.Mount.{Mount}
-use Rattle.kr_mounts.specs.declared.mounted.MountNumber.{MountNumber}
+use Rattle.kr_core.specs.kr_mounts.declared.mount.Mount.{Mount}
+use Rattle.kr_core.specs.kr_mounts.declared.mounted.MountNumber.{MountNumber}
 use Rattle.pr_start.specs.Directory.{At, directory_reach, working_directory}
-use Rattle.pr_words.specs.Command.{arguments, ids_of, word_of}
+use Rattle.pt_first.specs.pr_words.Command.{arguments, ids_of, word_of}
 use Rattle.pr_start.specs.Command.{Chosen, chosen}
 use Rattle.pr_start.specs.Numbers.{number_of}
 use Rattle.pr_start.specs.Beginning.{Begins, BeginsUnmarked, beginning, begun, begun_at, begun_in, fresh, nowhere, told_with}
-use Rattle.pr_words.specs.declared.launch.Launch.{Launch}
+use Rattle.pt_first.specs.pr_words.declared.launch.Launch.{Launch}
 
 module _ (table : List Row) (tree : Tree) (user : User) (watch : Watch) (launch : Launch) (input : List ℕ) where
   -- what was found step by step is what begins

@@ -1,20 +1,20 @@
 -- A plain kernel can begin with the first process that a tracer found.
 use Rattle.std.proofs.Common.{◌≡◌, List, sym, ap, subst, ◌∙◌}
 use Rattle.std.specs.Prelude.{Ok}
-use Rattle.kr_tree.specs.kr_inode.declared.user.User.{User}
-use Rattle.kr_tree.specs.Tree.{Tree}
-use Rattle.kr_view.specs.Processes.{no_finds}
-use Rattle.kr_view.specs.View.{Row, plain}
-use Rattle.kr_mounts.specs.Standing.{texts_of}
-use Rattle.kr_start.specs.law_allowed.Texts.{IsText}
+use Rattle.pt_tracer.specs.kr_inode.declared.user.User.{User}
+use Rattle.kr_core.specs.kr_tree.Tree.{Tree}
+use Rattle.kr_core.specs.kr_view.Processes.{no_finds}
+use Rattle.kr_core.specs.kr_view.View.{Row, plain}
+use Rattle.kr_core.specs.kr_mounts.Standing.{texts_of}
+use Rattle.kr_core.specs.law_allowed.Texts.{IsText}
 use Rattle.kr_core.specs.kr_first.Started.{LeadsToDirectory}
 use Rattle.kr_core.specs.kr_first.declared.starting.First.{First}
-use Rattle.kr_start.specs.law_walks.Settled.{IsSettled}
-use Rattle.pr_base.specs.MountText.{MountText}
-use Rattle.pt_bind.specs.Tags.{TagTable}
+use Rattle.kr_core.specs.law_walks.Settled.{IsSettled}
+use Rattle.pt_tracer.specs.pr_base.MountText.{MountText}
+use Rattle.pt_tracer.specs.pt_bind.Tags.{TagTable}
 use Rattle.pt_first.specs.GuestStart.{IsBegun, guest_start}
 use Rattle.pt_first.specs.Laws.{FirstsCanStart}
-use Rattle.pr_words.specs.declared.launch.Launch.{Launch}
+use Rattle.pt_first.specs.pr_words.declared.launch.Launch.{Launch}
 use Rattle.pr_start.specs.TracedBeginning.{texts_before}
 
 pub can-start : FirstsCanStart → (table : List Row) (tree : Tree) (user : User) (bindings : List MountText) (old new : TagTable) (launch : Launch) (first : First) → IsSettled (record { table = table; tree = tree; user = user; finds = no_finds })

@@ -5,18 +5,18 @@ use Rattle.std.specs.List.{All}
 use Rattle.std.specs.Option.{option_and_then}
 use Rattle.std.proofs.lemmas.List.Elements.{All-head, All-tail}
 use Rattle.std.proofs.lemmas.Option.{same_Some}
-use Rattle.kr_tree.specs.kr_inode.declared.user.User.{User}
-use Rattle.kr_tree.specs.declared.place.Place.{Place}
-use Rattle.kr_tree.specs.Tree.{Tree}
-use Rattle.kr_view.specs.declared.target.Reach.{Reach}
-use Rattle.kr_view.specs.Component.{may_search}
-use Rattle.kr_view.specs.View.{Row, StandsIn}
-use Rattle.kr_start.specs.law_allowed.Texts.{IsText}
+use Rattle.pt_tracer.specs.kr_inode.declared.user.User.{User}
+use Rattle.kr_core.specs.kr_tree.declared.place.Place.{Place}
+use Rattle.kr_core.specs.kr_tree.Tree.{Tree}
+use Rattle.kr_core.specs.kr_view.declared.target.Reach.{Reach}
+use Rattle.kr_core.specs.kr_view.Component.{may_search}
+use Rattle.kr_core.specs.kr_view.View.{Row, StandsIn}
+use Rattle.kr_core.specs.law_allowed.Texts.{IsText}
 use Rattle.kr_core.specs.kr_first.Laws.{RootsAreDirectories}
 use Rattle.kr_core.specs.kr_first.Starting.{directory_at, is_walked}
 use Rattle.pr_start.specs.Directory.{if_searchable, or_root, searchable_at, working_directory}
-use Rattle.pr_words.proofs.TextLemmas.{text-candidate, text-word, texts-directories}
-use Rattle.pr_words.specs.Command.{candidate, directories, has_slash, path_of, word_of}
+use Rattle.pt_first.proofs.pr_words.TextLemmas.{text-candidate, text-word, texts-directories}
+use Rattle.pt_first.specs.pr_words.Command.{candidate, directories, has_slash, path_of, word_of}
 use Rattle.pr_start.specs.Command.{Chosen, chosen, is_there, program_reach, searched}
 
 -- one that is taken, or a later one

@@ -1,15 +1,15 @@
 -- The start of a run over mounts: the working directory, the command, and then the first process, which is that of execve(2).
 use Rattle.std.specs.Prelude.{◌≡◌, ℕ, true, false, List, [], ◌∷◌, Option, Some, None, Result, Ok, Err}
 use Rattle.std.specs.List.{All}
-use Rattle.pr_base.specs.declared.errno.Errno.{Errno}
-use Rattle.pr_base.specs.declared.errno.Errno.TheVariants.{ENOENT}
-use Rattle.kr_tree.specs.kr_inode.declared.user.User.{User}
-use Rattle.kr_tree.specs.Tree.{Tree}
-use Rattle.kr_view.specs.declared.target.Reach.{Reach}
-use Rattle.kr_view.specs.View.{Row}
-use Rattle.kr_start.specs.kr_model.State.{Image, State}
-use Rattle.kr_start.specs.kr_model.Walks.{and_then}
-use Rattle.kr_start.specs.law_allowed.Texts.{IsText}
+use Rattle.pt_tracer.specs.pr_base.declared.errno.Errno.{Errno}
+use Rattle.pt_tracer.specs.pr_base.declared.errno.Errno.TheVariants.{ENOENT}
+use Rattle.pt_tracer.specs.kr_inode.declared.user.User.{User}
+use Rattle.kr_core.specs.kr_tree.Tree.{Tree}
+use Rattle.kr_core.specs.kr_view.declared.target.Reach.{Reach}
+use Rattle.kr_core.specs.kr_view.View.{Row}
+use Rattle.kr_core.specs.kr_model.State.{Image, State}
+use Rattle.kr_core.specs.kr_model.Walks.{and_then}
+use Rattle.kr_core.specs.law_allowed.Texts.{IsText}
 use Rattle.kr_core.specs.kr_first.declared.starting.First.{First}
 use Rattle.kr_core.specs.kr_first.declared.starting.StartFault.{StartFault}
 use Rattle.kr_core.specs.kr_first.declared.starting.StartFault.TheVariants as fault
@@ -18,14 +18,14 @@ use Rattle.kr_core.specs.kr_turns.kr_calm.declared.rule.Rule.{Rule}
 use Rattle.kr_core.specs.Runs.{Machine}
 use Rattle.kr_core.specs.Kernel as kernel
 use Rattle.kr_core.specs.Kernel.{first_rule, machine}
-use Rattle.kr_mounts.specs.declared.mount.Mount.{Mount}
-use Rattle.kr_mounts.specs.declared.mounted.MountNumber.{MountNumber}
+use Rattle.kr_core.specs.kr_mounts.declared.mount.Mount.{Mount}
+use Rattle.kr_core.specs.kr_mounts.declared.mounted.MountNumber.{MountNumber}
 use Rattle.pt_tracer.specs.pt_faker.declared.watch.Watch.{Watch}
 use Rattle.pr_start.specs.Directory.{At, directory_reach, working_directory}
-use Rattle.pr_words.specs.Command.{arguments, ids_of, word_of}
+use Rattle.pt_first.specs.pr_words.Command.{arguments, ids_of, word_of}
 use Rattle.pr_start.specs.Command.{chosen}
 use Rattle.pr_start.specs.Numbers.{number_of}
-use Rattle.pr_words.specs.declared.launch.Launch.{Launch}
+use Rattle.pt_first.specs.pr_words.declared.launch.Launch.{Launch}
 
 -- what a process is launched with are texts
 pub record HasTexts (launch : Launch) : Type 0 where

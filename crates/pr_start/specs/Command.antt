@@ -1,18 +1,18 @@
 -- The command: a word with a slash is a path. Another one is searched in the directories of PATH, or in `/bin` and `/usr/bin`; the first
 -- candidate that is a regular file which the user may execute is taken.
 use Rattle.std.specs.Prelude.{ℕ, Bool, true, false, List, [], ◌∷◌, Option, Some, None, Result, Ok, Err, if◌then◌else◌}
-use Rattle.pr_base.specs.declared.errno.Errno.{Errno}
-use Rattle.pr_base.specs.declared.path.WalkMode.TheVariants.{Look}
-use Rattle.kr_tree.specs.kr_inode.declared.user.User.{User}
-use Rattle.kr_tree.specs.declared.place.Place.{Place}
-use Rattle.kr_tree.specs.Tree.{Tree}
-use Rattle.kr_view.specs.declared.target.Reach.{Reach}
-use Rattle.kr_view.specs.Reach.{reach_after}
-use Rattle.kr_view.specs.View.{Row}
-use Rattle.kr_view.specs.Walk.{PlaceTarget}
-use Rattle.kr_exec.specs.Finding.{program_walk}
+use Rattle.pt_tracer.specs.pr_base.declared.errno.Errno.{Errno}
+use Rattle.pt_tracer.specs.pr_base.declared.path.WalkMode.TheVariants.{Look}
+use Rattle.pt_tracer.specs.kr_inode.declared.user.User.{User}
+use Rattle.kr_core.specs.kr_tree.declared.place.Place.{Place}
+use Rattle.kr_core.specs.kr_tree.Tree.{Tree}
+use Rattle.kr_core.specs.kr_view.declared.target.Reach.{Reach}
+use Rattle.kr_core.specs.kr_view.Reach.{reach_after}
+use Rattle.kr_core.specs.kr_view.View.{Row}
+use Rattle.kr_core.specs.kr_view.Walk.{PlaceTarget}
+use Rattle.pt_tracer.specs.kr_exec.Finding.{program_walk}
 use Rattle.kr_core.specs.kr_first.Starting.{around, found_from, is_walked}
-use Rattle.pr_words.specs.Command.{candidate, directories, has_slash, path_of}
+use Rattle.pt_first.specs.pr_words.Command.{candidate, directories, has_slash, path_of}
 
 abbrev pub is_found : Result PlaceTarget Errno → Bool
 is_found (Ok target) = true

@@ -1,14 +1,14 @@
 -- The first working directory: what a path leads to from the root, if the user may search it, and else the root.
 use Rattle.std.specs.Prelude.{ℕ, List, codes, Option, Some, None, if◌then◌else◌}
 use Rattle.std.specs.Option.{option_and_then}
-use Rattle.pr_base.specs.declared.path.WalkMode.TheVariants.{Look}
-use Rattle.kr_tree.specs.kr_inode.declared.user.User.{User}
-use Rattle.kr_tree.specs.declared.place.Place.{Place}
-use Rattle.kr_tree.specs.Tree.{Tree}
-use Rattle.kr_view.specs.declared.target.Reach.{Reach}
-use Rattle.kr_view.specs.Component.{may_search}
-use Rattle.kr_view.specs.Reach.{reach_after}
-use Rattle.kr_view.specs.View.{Row, root_place}
+use Rattle.pt_tracer.specs.pr_base.declared.path.WalkMode.TheVariants.{Look}
+use Rattle.pt_tracer.specs.kr_inode.declared.user.User.{User}
+use Rattle.kr_core.specs.kr_tree.declared.place.Place.{Place}
+use Rattle.kr_core.specs.kr_tree.Tree.{Tree}
+use Rattle.kr_core.specs.kr_view.declared.target.Reach.{Reach}
+use Rattle.kr_core.specs.kr_view.Component.{may_search}
+use Rattle.kr_core.specs.kr_view.Reach.{reach_after}
+use Rattle.kr_core.specs.kr_view.View.{Row, root_place}
 use Rattle.kr_core.specs.kr_first.Starting.{around, directory_at, directory_walk, is_walked}
 
 -- a directory with a path that leads to it

@@ -1,7 +1,7 @@
 -- Places of the mounts in code, told by the numbers of the mounts.
 use Rattle.std.specs.Prelude.{ℕ}
-use Rattle.kr_mounts.specs.declared.mounted.MountNumber.{MountNumber}
-use Rattle.kr_view.specs.Leads.{numbered}
+use Rattle.kr_core.specs.kr_mounts.declared.mounted.MountNumber.{MountNumber}
+use Rattle.kr_core.specs.kr_view.Leads.{numbered}
 use Rattle.pr_start.specs.Directory.{At}
 use Rattle.pr_start.specs.declared.directory.Directory.{Directory}
 

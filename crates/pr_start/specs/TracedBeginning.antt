@@ -2,26 +2,26 @@
 -- lives; then the first process begins on the plain kernel, which is handed host texts.
 use Rattle.std.specs.FinMap as map
 use Rattle.std.specs.Prelude.{◌≡◌, ℕ, true, List, Option, None, Result, Ok, Err}
-use Rattle.pr_base.specs.MountText.{MountText}
-use Rattle.pr_base.specs.declared.errno.Errno.{Errno}
-use Rattle.kr_tree.specs.kr_inode.declared.user.User.{User}
-use Rattle.kr_tree.specs.Tree.{Tree}
-use Rattle.kr_view.specs.View.{plain}
-use Rattle.kr_view.specs.declared.view.Plain.{Plain}
-use Rattle.kr_view.specs.declared.view.HostMount.{HostMount}
-use Rattle.kr_start.specs.kr_model.State.{Image, State}
-use Rattle.kr_start.specs.kr_model.Walks.{and_then}
+use Rattle.pt_tracer.specs.pr_base.MountText.{MountText}
+use Rattle.pt_tracer.specs.pr_base.declared.errno.Errno.{Errno}
+use Rattle.pt_tracer.specs.kr_inode.declared.user.User.{User}
+use Rattle.kr_core.specs.kr_tree.Tree.{Tree}
+use Rattle.kr_core.specs.kr_view.View.{plain}
+use Rattle.kr_core.specs.kr_view.declared.view.Plain.{Plain}
+use Rattle.kr_core.specs.kr_view.declared.view.HostMount.{HostMount}
+use Rattle.kr_core.specs.kr_model.State.{Image, State}
+use Rattle.kr_core.specs.kr_model.Walks.{and_then}
 use Rattle.kr_core.specs.kr_first.Starting.{start_of}
 use Rattle.kr_core.specs.kr_first.declared.starting.StartFault.{StartFault}
 use Rattle.kr_core.specs.kr_first.declared.starting.StartFault.TheVariants as fault
 use Rattle.kr_core.specs.Runs.{Machine}
 use Rattle.kr_core.specs.Kernel as kernel
 use Rattle.kr_core.specs.Kernel.{machine_by}
-use Rattle.pt_canon.specs.TextWalk.{TextSurroundings}
+use Rattle.pt_tracer.specs.pt_canon.TextWalk.{TextSurroundings}
 use Rattle.pt_first.specs.FirstPeeks.{first_peeked}
 use Rattle.pt_first.specs.GuestStart.{guest_start, tagged}
 use Rattle.pt_first.specs.declared.begun.Begun.{Begun}
-use Rattle.pr_words.specs.declared.launch.Launch.{Launch}
+use Rattle.pt_first.specs.pr_words.declared.launch.Launch.{Launch}
 use Rattle.pt_tracer.specs.Keeping.{Keeping}
 use Rattle.pt_tracer.specs.Watched.{starting_tracing}
 pub use Rattle.pt_tracer.specs.Watched.{Tracing, tracer}

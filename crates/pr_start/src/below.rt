@@ -1,4 +1,4 @@
 //! What those above name of the crates below.
 
-pub use kr_core::below::{Rule, StartFault};
-pub use kr_start::{Stage, settled};
+pub use kr_core::below::{Rule, Stage, StartFault, settled};
+pub use pt_first::below::{Launch, Options};

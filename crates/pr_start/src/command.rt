@@ -1,17 +1,15 @@
 //! The command, searched in the directories of PATH where its word has no slash.
 ghost use Rattle.std.specs.Prelude.{◌≡◌, IfOk, OnOk, map};
-ghost use Rattle.kr_mounts.specs.Stored.{table_of};
-ghost use Rattle.kr_view.specs.Leads.{numbered};
+ghost use Rattle.kr_core.specs.kr_mounts.Stored.{table_of};
+ghost use Rattle.kr_core.specs.kr_view.Leads.{numbered};
 ghost use Rattle.pr_start.specs.Command.{Chosen, chosen, is_there, program_reach, searched};
 ghost use Rattle.pr_start.specs.Numbers.{number_of};
 
-use kr_exec::find_exec;
-use kr_mounts::MountNumber;
-use kr_start::Stage;
-use kr_tree::Place;
-use kr_view::{NoProcs, Reach, WalkFault};
-use pr_base::{Bytes, NoMemory, Texts, is_walked};
-use pr_words::{candidate, directories, has_slash, path_of};
+use kr_core::below::{MountNumber, NoProcs, Reach, Stage, WalkFault};
+use pt_first::below::{
+    Bytes, NoMemory, Place, Texts, candidate, directories, has_slash, is_walked, path_of,
+};
+use pt_tracer::below::find_exec;
 use std::alloc::Global;
 
 /// The number of the first process, in whose name its walks are made.

@@ -1,18 +1,14 @@
 //! The first working directory.
 ghost use Rattle.std.specs.Prelude.{◌≡◌, IfOk, OnOk};
 ghost use Rattle.std.specs.Option.{option_map};
-ghost use Rattle.kr_mounts.specs.Stored.{table_of};
-ghost use Rattle.kr_view.specs.Component.{may_search};
-ghost use Rattle.kr_view.specs.Leads.{numbered};
+ghost use Rattle.kr_core.specs.kr_mounts.Stored.{table_of};
+ghost use Rattle.kr_core.specs.kr_view.Component.{may_search};
+ghost use Rattle.kr_core.specs.kr_view.Leads.{numbered};
 ghost use Rattle.pr_start.specs.Directory.{directory_reach, searchable_at, working_directory};
 ghost use Rattle.pr_start.specs.Numbers.{number_of, directory_told};
 
-use kr_core::below::directory_at;
-use kr_mounts::MountNumber;
-use kr_start::Stage;
-use kr_tree::{Host, Place, Right, Tree, User};
-use kr_view::{Places, Reach};
-use pr_base::{Bytes, NoMemory, is_walked};
+use kr_core::below::{MountNumber, Places, Reach, Stage, directory_at};
+use pt_first::below::{Bytes, Host, NoMemory, Place, Right, Tree, User, is_walked};
 use std::alloc::Global;
 
 /// The first working directory, and a path that leads to it from the root.

@@ -1,20 +1,16 @@
 //! The start.
 ghost use Rattle.std.specs.Prelude.{◌≡◌, ◌≢◌, IfOk};
 ghost use Rattle.kr_core.specs.kr_first.Started.{LeadsToDirectory};
-ghost use Rattle.kr_start.specs.law_allowed.Texts.{IsText};
-ghost use Rattle.kr_mounts.specs.Stored.{table_of};
-ghost use Rattle.kr_start.specs.Ready.{IsReady};
+ghost use Rattle.kr_core.specs.law_allowed.Texts.{IsText};
+ghost use Rattle.kr_core.specs.kr_mounts.Stored.{table_of};
+ghost use Rattle.kr_core.specs.kr_start.Ready.{IsReady};
 ghost use Rattle.pr_start.specs.Beginning.{Begins, BeginsUnmarked, HasTexts, Prepares, beginning};
 
 use crate::command::choose;
 use crate::directory::working_directory;
 use kr_core::Kernel;
-use kr_core::below::{First, Rule, StartFault, roots_are_directories};
-use kr_mounts::Mounted;
-use kr_start::Stage;
-use kr_view::Reach;
-use pr_base::{Bytes, Errno};
-use pr_words::{Launch, arguments, word_of};
+use kr_core::below::{First, Mounted, Reach, Rule, Stage, StartFault, roots_are_directories};
+use pt_first::below::{Bytes, Errno, Launch, arguments, word_of};
 use pt_tracer::below::Watch;
 use std::alloc::Global;
 

@@ -1,26 +1,21 @@
 //! The start.
 ghost use Rattle.std.specs.Prelude.{◌≡◌, []};
-ghost use Rattle.kr_mounts.specs.Standing.{texts_of};
-ghost use Rattle.kr_mounts.specs.Stored.{table_of};
-ghost use Rattle.kr_start.specs.Ready.{IsReady};
-ghost use Rattle.pt_bind.specs.Binding.{rows_of};
-ghost use Rattle.pt_canon.specs.Canon.{texts_by};
+ghost use Rattle.kr_core.specs.kr_mounts.Standing.{texts_of};
+ghost use Rattle.kr_core.specs.kr_mounts.Stored.{table_of};
+ghost use Rattle.kr_core.specs.kr_start.Ready.{IsReady};
+ghost use Rattle.pt_tracer.specs.pt_bind.Binding.{rows_of};
+ghost use Rattle.pt_tracer.specs.pt_canon.Canon.{texts_by};
 ghost use Rattle.pt_first.specs.FirstPeeks.{first_peeked};
 ghost use Rattle.pt_first.specs.GuestStart.{IsBegun, guest_start};
 ghost use Rattle.pr_start.specs.TracedBeginning.{BeginsTraced, traced_beginning};
 
 use kr_core::Kernel;
-use kr_core::below::{First, StartFault};
-use kr_start::Stage;
-use kr_tree::{Tree, User};
-use kr_view::Plain;
-use pr_base::Bytes;
-use pr_words::Launch;
-use pt_bind::Tags;
-use pt_canon::Walker;
+use kr_core::below::{First, Plain, Stage, StartFault};
+use pt_first::below::{Bytes, Launch, Tree, User};
 use pt_first::first;
 use pt_first::laws::firsts_can_start;
 use pt_tracer::Tracer;
+use pt_tracer::below::{Tags, Walker};
 use std::alloc::Global;
 
 /// Starts a command in guest terms over the texts of settled bindings, in the name of their tree's user, on a plain kernel with its tracer.

@@ -2,21 +2,21 @@
 use Rattle.std.proofs.Common.{◌≡◌, ◌≤◌, ◌∙◌, ℕ, Bool, false, List, length, Option, None, refl, ap, arith, nat_lt, if◌then◌else◌}
 use Rattle.std.specs.Prelude.{Result, Ok, Err}
 use Rattle.std.proofs.lemmas.Bool.Decides.{nat_tests}
-use Rattle.pr_words.specs.declared.options.Options.{Options}
-use Rattle.kr_tree.specs.kr_inode.declared.user.User.{User}
-use Rattle.kr_tree.specs.Tree.{Tree}
-use Rattle.pr_sources.specs.kr_text.Canonical.{canonical}
-use Rattle.pr_sources.specs.kr_text.Reading.{listing_of}
-use Rattle.pr_sources.specs.kr_text.declared.fault.ListFault.{ListFault}
-use Rattle.pr_sources.proofs.kr_text.ReadAll.{listings_read}
-use Rattle.pr_sources.specs.declared.answer.Answer.{Answer}
-use Rattle.pr_sources.specs.declared.answer.Answer.TheVariants.{TooLong}
-use Rattle.pr_sources.specs.declared.answer.Which.{Which}
-use Rattle.pr_sources.specs.declared.answer.Which.TheVariants.{Tree as TreeSource, Input}
-use Rattle.pr_sources.specs.Asking.{asked}
-use Rattle.pr_sources.specs.Reading.{asks, file_limit, listed, listed_of, read_asked, read_file, read_listing, tree_limit, with_input}
-use Rattle.pr_sources.specs.Within.{and_then, within}
-use Rattle.pr_sources.specs.declared.reading.Asked.{Asked}
+use Rattle.pr_start.specs.pr_words.declared.options.Options.{Options}
+use Rattle.pr_start.specs.kr_inode.declared.user.User.{User}
+use Rattle.pr_start.specs.kr_tree.Tree.{Tree}
+use Rattle.pr_gen.specs.kr_text.Canonical.{canonical}
+use Rattle.pr_gen.specs.kr_text.Reading.{listing_of}
+use Rattle.pr_gen.specs.kr_text.declared.fault.ListFault.{ListFault}
+use Rattle.pr_gen.proofs.kr_text.ReadAll.{listings_read}
+use Rattle.pr_run.specs.pr_sources.declared.answer.Answer.{Answer}
+use Rattle.pr_run.specs.pr_sources.declared.answer.Answer.TheVariants.{TooLong}
+use Rattle.pr_run.specs.pr_sources.declared.answer.Which.{Which}
+use Rattle.pr_run.specs.pr_sources.declared.answer.Which.TheVariants.{Tree as TreeSource, Input}
+use Rattle.pr_run.specs.pr_sources.Asking.{asked}
+use Rattle.pr_run.specs.pr_sources.Reading.{asks, file_limit, listed, listed_of, read_asked, read_file, read_listing, tree_limit, with_input}
+use Rattle.pr_run.specs.pr_sources.Within.{and_then, within}
+use Rattle.pr_run.specs.pr_sources.declared.reading.Asked.{Asked}
 use Rattle.pr_top.specs.Opening.{Begun, Both, Mounts, Started, Traced, begun, opened_for, opening, report, report_on}
 use Rattle.pr_top.specs.Again.{AreReadAgain, tree_left, tree_on}
 

@@ -2,24 +2,24 @@
 use Rattle.std.proofs.Common.{◌≡◌, ◌⊎◌, inl, inr, ℕ, zero, suc, List, [], None, sym, ap, subst, ◌∙◌, codes, arith}
 use Rattle.std.specs.Prelude.{Result, Ok, Err}
 use Rattle.std.specs.List.{All}
-use Rattle.pr_base.specs.declared.bind.Bind.{Bind}
-use Rattle.pr_base.specs.declared.errno.Errno.{Errno}
-use Rattle.kr_tree.specs.kr_inode.declared.user.User.{User}
+use Rattle.pr_start.specs.pr_base.declared.bind.Bind.{Bind}
+use Rattle.pr_start.specs.pr_base.declared.errno.Errno.{Errno}
+use Rattle.pr_start.specs.kr_inode.declared.user.User.{User}
 use Rattle.pr_start.specs.law_allowed.Texts.{IsText}
-use Rattle.kr_mounts.specs.Bounds.{AreNumbered}
-use Rattle.kr_mounts.specs.Standing.{texts_of}
-use Rattle.kr_mounts.specs.Stored.{table_of}
+use Rattle.pr_run.specs.kr_mounts.Bounds.{AreNumbered}
+use Rattle.pr_run.specs.kr_mounts.Standing.{texts_of}
+use Rattle.pr_run.specs.kr_mounts.Stored.{table_of}
 use Rattle.pr_start.specs.kr_start.declared.stage.Stage.{Stage as StageOfCode}
-use Rattle.kr_view.specs.View.{Row}
-use Rattle.pr_sources.specs.declared.answer.Answer.{Answer}
-use Rattle.pr_sources.specs.declared.answer.Answer.TheVariants.{NoStart}
+use Rattle.pr_start.specs.kr_view.View.{Row}
+use Rattle.pr_run.specs.pr_sources.declared.answer.Answer.{Answer}
+use Rattle.pr_run.specs.pr_sources.declared.answer.Answer.TheVariants.{NoStart}
 use Rattle.pr_gen.specs.Case.{case_binds, case_command}
-use Rattle.pr_words.specs.declared.launch.Launch.{Launch}
-use Rattle.pr_sources.specs.Within.{IsEarly}
+use Rattle.pr_start.specs.pr_words.declared.launch.Launch.{Launch}
+use Rattle.pr_run.specs.pr_sources.Within.{IsEarly}
 use Rattle.pr_start.specs.Beginning.{beginning}
 use Rattle.pr_start.specs.Machines.{Machine, Nobody, Watch}
 use Rattle.pr_start.specs.TracedBeginning.{Tracing, traced_beginning}
-use Rattle.pr_words.specs.declared.options.Options.{Options}
+use Rattle.pr_start.specs.pr_words.declared.options.Options.{Options}
 use Rattle.pr_top.specs.Opening.{Begun, Both, Staged, begun_as, begun_both, begun_with, case_launch, case_plan, mounted_by, mounted_start, staged_told, started_both, watched_by, watched_start}
 
 -- ---- a start

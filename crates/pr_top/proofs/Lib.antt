@@ -1,7 +1,8 @@
-pub use Rattle.pr_base.proofs as pr_base
-pub use Rattle.kr_tree.proofs as kr_tree
-pub use Rattle.kr_mounts.proofs as kr_mounts
-pub use Rattle.pr_words.proofs as pr_words
+pub use Rattle.pr_start.proofs.pr_base as pr_base
+pub use Rattle.pr_start.proofs.kr_tree as kr_tree
+pub use Rattle.pr_start.proofs.kr_mounts as kr_mounts
+pub use Rattle.pr_run.proofs.pr_words as pr_words
+pub use Rattle.pr_run.proofs.pr_sources as pr_sources
 pub mod OpeningLemmas
 pub mod GeneratedLemmas
 pub mod AgainLemmas

@@ -1,8 +1,8 @@
 -- A run on a kernel over mounts that keeps no marks has the report of one with marks, where no word on calm is asked for.
 use Rattle.std.proofs.Common.{◌≡◌, ℕ, false, List, Option, refl, sym, ap, ◌∙◌}
-use Rattle.kr_tree.specs.Tree.{Tree}
-use Rattle.kr_view.specs.View.{Row}
-use Rattle.pr_sources.specs.kr_text.Canonical.{canonical}
+use Rattle.pr_start.specs.kr_tree.Tree.{Tree}
+use Rattle.pr_start.specs.kr_view.View.{Row}
+use Rattle.pr_gen.specs.kr_text.Canonical.{canonical}
 use Rattle.pr_start.specs.Machines.{Machine, Ran, Watch, run, watch}
 use Rattle.pr_run.specs.Report.{answer_of, calm_part, report_of}
 use Rattle.pr_run.specs.Slots.{slot_of}

@@ -1,13 +1,13 @@
 -- From what was read to the opening.
 use Rattle.std.proofs.Common.{◌≡◌, inl, inr, ℕ, false, List, Some, None, sym, ap, subst, ◌∙◌}
 use Rattle.std.specs.Prelude.{Result, Ok, Err, IfErr, IfOk, IsSome, is_some}
-use Rattle.pr_words.specs.declared.options.Options.{Options}
-use Rattle.pr_sources.specs.declared.answer.Answer.{Answer}
-use Rattle.pr_sources.specs.declared.answer.Answer.TheVariants.{Ended, Deadlock, Spent, Usage, TooLong, TreeBad, BadBind, NoStart, ReadFault, WriteFault, NoMemory}
-use Rattle.pr_sources.specs.Asking.{IsOfAsking, IsRefused}
-use Rattle.pr_sources.specs.Reading.{AllAreRead, AsksCase, EndsBeforeElf, EndsBeforeInput, HasCause, IsOfWords, IsRead, IsReadAs, IsReadUpTo, IsRefusal, ReadHasCause, ReadsSources, Sources, read_asked}
-use Rattle.pr_sources.specs.Within.{ComesTo, and_then}
-use Rattle.pr_sources.specs.declared.reading.Asked.{Asked}
+use Rattle.pr_start.specs.pr_words.declared.options.Options.{Options}
+use Rattle.pr_run.specs.pr_sources.declared.answer.Answer.{Answer}
+use Rattle.pr_run.specs.pr_sources.declared.answer.Answer.TheVariants.{Ended, Deadlock, Spent, Usage, TooLong, TreeBad, BadBind, NoStart, ReadFault, WriteFault, NoMemory}
+use Rattle.pr_run.specs.pr_sources.Asking.{IsOfAsking, IsRefused}
+use Rattle.pr_run.specs.pr_sources.Reading.{AllAreRead, AsksCase, EndsBeforeElf, EndsBeforeInput, HasCause, IsOfWords, IsRead, IsReadAs, IsReadUpTo, IsRefusal, ReadHasCause, ReadsSources, Sources, read_asked}
+use Rattle.pr_run.specs.pr_sources.Within.{ComesTo, and_then}
+use Rattle.pr_run.specs.pr_sources.declared.reading.Asked.{Asked}
 use Rattle.pr_top.specs.Opening.{Begun, IsOfStart, OpensFrom, ReadsAs, WasRead, begun, case_begun, opened_for}
 use Rattle.pr_top.specs.declared.opening.Opened.{Opened}
 

@@ -1,11 +1,11 @@
 -- A run goes on where another one ended: its call is handed the listing that the other one left.
 use Rattle.std.specs.Prelude.{◌≡◌, ◌≤◌, ℕ, List, length, None, Ok}
-use Rattle.pr_words.specs.declared.options.Options.{Options}
-use Rattle.kr_tree.specs.Lawful.{IsKept}
-use Rattle.kr_tree.specs.Tree.{Tree}
-use Rattle.pr_sources.specs.kr_text.Same.{CanBeListed, IsSame}
-use Rattle.pr_sources.specs.Asking.{asked}
-use Rattle.pr_sources.specs.Reading.{asks, file_limit, read_file, tree_limit}
+use Rattle.pr_start.specs.pr_words.declared.options.Options.{Options}
+use Rattle.pr_start.specs.kr_tree.Lawful.{IsKept}
+use Rattle.pr_start.specs.kr_tree.Tree.{Tree}
+use Rattle.pr_gen.specs.kr_text.Same.{CanBeListed, IsSame}
+use Rattle.pr_run.specs.pr_sources.Asking.{asked}
+use Rattle.pr_run.specs.pr_sources.Reading.{asks, file_limit, read_file, tree_limit}
 use Rattle.pr_top.specs.Opening.{Begun, Both, Mounts, Started, Traced, begun, mounted_run, opening, report, traced_run}
 
 -- the tree that a run leaves, by the machine that makes it; of a generated case that of the watched one

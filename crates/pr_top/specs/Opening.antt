@@ -1,34 +1,34 @@
 -- The opening: the first refusal in the order of the words, the sources, the bindings and the start, or a run that begins. It is a function of
 -- the words and of the bytes that the sources gave; a generated case needs none.
 use Rattle.std.specs.Prelude.{◌≡◌, ◌⊎◌, ℕ, Bool, true, false, List, [], codes, Option, Some, None, IfOk, Result, Ok, Err, if◌then◌else◌}
-use Rattle.pr_base.specs.declared.errno.Errno.{Errno}
-use Rattle.kr_tree.specs.Tree.{Tree}
-use Rattle.kr_view.specs.View.{Row, plain}
+use Rattle.pr_start.specs.pr_base.declared.errno.Errno.{Errno}
+use Rattle.pr_start.specs.kr_tree.Tree.{Tree}
+use Rattle.pr_start.specs.kr_view.View.{Row, plain}
 use Rattle.pr_start.specs.kr_core.Kernel as kernel
-use Rattle.kr_mounts.specs.declared.mount.Mount.{Mount}
-use Rattle.kr_mounts.specs.declared.mounted.MountNumber.{MountNumber}
+use Rattle.pr_run.specs.kr_mounts.declared.mount.Mount.{Mount}
+use Rattle.pr_run.specs.kr_mounts.declared.mounted.MountNumber.{MountNumber}
 use Rattle.pr_start.specs.kr_start.declared.stage.Stage.{Stage as StageOfCode}
-use Rattle.kr_mounts.specs.MountTable.{Refusal, Settling, settling}
-use Rattle.kr_mounts.specs.Standing.{texts_of}
-use Rattle.kr_mounts.specs.Stored.{table_of}
+use Rattle.pr_run.specs.kr_mounts.MountTable.{Refusal, Settling, settling}
+use Rattle.pr_run.specs.kr_mounts.Standing.{texts_of}
+use Rattle.pr_run.specs.kr_mounts.Stored.{table_of}
 use Rattle.pr_start.specs.kr_first.declared.starting.StartFault.{StartFault}
 use Rattle.pr_start.specs.kr_first.declared.starting.StartFault.TheVariants as fault
-use Rattle.kr_tree.specs.kr_inode.declared.user.User.{User}
-use Rattle.pr_sources.specs.declared.answer.Answer.{Answer}
-use Rattle.pr_sources.specs.declared.answer.Answer.TheVariants.{BadBind, NoMemory, NoStart, ReadFault, TooLong, TreeBad, Usage}
-use Rattle.pr_sources.specs.Within.{IsEarly, and_then}
-use Rattle.pr_sources.specs.Asking.{asked}
-use Rattle.pr_sources.specs.Reading.{IsRead, listed, read_asked}
-use Rattle.pr_sources.specs.declared.reading.Asked.{Asked}
+use Rattle.pr_start.specs.kr_inode.declared.user.User.{User}
+use Rattle.pr_run.specs.pr_sources.declared.answer.Answer.{Answer}
+use Rattle.pr_run.specs.pr_sources.declared.answer.Answer.TheVariants.{BadBind, NoMemory, NoStart, ReadFault, TooLong, TreeBad, Usage}
+use Rattle.pr_run.specs.pr_sources.Within.{IsEarly, and_then}
+use Rattle.pr_run.specs.pr_sources.Asking.{asked}
+use Rattle.pr_run.specs.pr_sources.Reading.{IsRead, listed, read_asked}
+use Rattle.pr_run.specs.pr_sources.declared.reading.Asked.{Asked}
 use Rattle.pr_start.specs.Beginning.{beginning, told_with}
 use Rattle.pr_start.specs.Machines.{Faked, Machine, Nobody, Ran, Watch, machine, run, starting_faking, watch}
 use Rattle.pr_start.specs.TracedBeginning.{TracedKernel, Tracing, traced_beginning, traced_machine, tracer}
 use Rattle.pr_start.specs.Numbers.{number_of}
-use Rattle.pr_words.specs.declared.launch.Launch.{Launch}
+use Rattle.pr_start.specs.pr_words.declared.launch.Launch.{Launch}
 use Rattle.pr_gen.specs.Case.{case_binds, case_command, case_root}
 use Rattle.pr_gen.specs.Guest.{guest}
 use Rattle.pr_gen.specs.Listing.{case_listing}
-use Rattle.pr_words.specs.declared.options.Options.{Options}
+use Rattle.pr_start.specs.pr_words.declared.options.Options.{Options}
 use Rattle.pr_run.specs.Case.{case_report_of}
 use Rattle.pr_run.specs.Report.{Report, report_of}
 use Rattle.pr_run.specs.Slots.{IsPlan, slot_of}

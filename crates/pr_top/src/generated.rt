@@ -1,23 +1,19 @@
 //! The opening of a generated case: both machines begin on its parts, the watched one first.
 ghost use Rattle.std.specs.Prelude.{◌≡◌, ◌≤◌, IfErr, IfOk};
-ghost use Rattle.pr_words.specs.Sound.{AreSound};
-ghost use Rattle.kr_mounts.specs.Standing.{texts_of};
-ghost use Rattle.kr_mounts.specs.Stored.{table_of};
+ghost use Rattle.pr_start.specs.pr_words.Sound.{AreSound};
+ghost use Rattle.pr_run.specs.kr_mounts.Standing.{texts_of};
+ghost use Rattle.pr_run.specs.kr_mounts.Stored.{table_of};
 ghost use Rattle.pr_start.specs.kr_start.Ready.{IsReady};
-ghost use Rattle.kr_mounts.specs.pt_bind.Binding.{rows_of};
+ghost use Rattle.pr_start.specs.pt_bind.Binding.{rows_of};
 ghost use Rattle.pr_top.specs.Opening.{IsOfStart, IsReadyToRun, MountsAs, OpensFrom, StagesAs, WatchesAs, case_begun, case_staged, mounted_by, watched_by};
 
 use crate::opening::{Kind, Opened, end_watched};
-use kr_mounts::{BindFault, Mounted};
-use kr_tree::User;
-use kr_view::Plain;
-use pr_base::{Bytes, Texts};
+use pr_gen::below::{Bytes, Texts, User};
 use pr_gen::{CaseParts, case};
 use pr_run::Plan;
-use pr_sources::Answer;
-use pr_start::below::{Stage, StartFault, settled};
+use pr_run::below::{Answer, BindFault, Mounted, Plain};
+use pr_start::below::{Launch, Options, Stage, StartFault, settled};
 use pr_start::{Kernel, Tracer, Watch, start, start_traced};
-use pr_words::{Launch, Options};
 use std::alloc::Global;
 
 /// The parts of a case: its tree, in which its bindings are settled, and its command.

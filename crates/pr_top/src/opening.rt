@@ -2,29 +2,24 @@
 //! begin, and no source is read.
 ghost use Rattle.std.specs.Prelude.{◌≡◌, ◌⊎◌, ◌<◌, ◌^◌, None, Some, Err, IfErr, IfOk, length, map};
 ghost use Rattle.std.specs.String.{string_bytes};
-ghost use Rattle.pr_io.specs.Drawn.{drawn, gave, received};
-ghost use Rattle.pr_words.specs.Sound.{AreSound};
-ghost use Rattle.kr_mounts.specs.Standing.{texts_of};
-ghost use Rattle.kr_mounts.specs.Stored.{table_of};
+ghost use Rattle.pr_run.specs.pr_io.Drawn.{drawn, gave, received};
+ghost use Rattle.pr_start.specs.pr_words.Sound.{AreSound};
+ghost use Rattle.pr_run.specs.kr_mounts.Standing.{texts_of};
+ghost use Rattle.pr_run.specs.kr_mounts.Stored.{table_of};
 ghost use Rattle.pr_start.specs.kr_start.Ready.{IsOfListing, IsReady};
-ghost use Rattle.kr_mounts.specs.pt_bind.Binding.{rows_of};
-ghost use Rattle.pr_sources.specs.Asking.{asked};
-ghost use Rattle.pr_sources.specs.Reading.{AreDrawn, AsksCase, EndsBeforeElf, EndsBeforeInput, HasCause, IsListed, IsOfWords, IsReadAs, IsRefusal, ReadHasCause, ReadsSources, WantsElf, read_asked};
-ghost use Rattle.pr_sources.specs.Within.{IsAskedWithin, and_then};
+ghost use Rattle.pr_start.specs.pt_bind.Binding.{rows_of};
+ghost use Rattle.pr_run.specs.pr_sources.Asking.{asked};
+ghost use Rattle.pr_run.specs.pr_sources.Reading.{AreDrawn, AsksCase, EndsBeforeElf, EndsBeforeInput, HasCause, IsListed, IsOfWords, IsReadAs, IsRefusal, ReadHasCause, ReadsSources, WantsElf, read_asked};
+ghost use Rattle.pr_run.specs.pr_sources.Within.{IsAskedWithin, and_then};
 ghost use Rattle.pr_top.specs.Opening.{IsFresh, IsMarkedFor, IsOfOpening, IsOfStart, IsReadyToRun, Mounts, OpensFrom, ReadsAs, StartsAs, begun, ids_for, opening, started_as, started_on, watch_for};
 ghost use Rattle.pr_start.specs.Beginning.{HasTexts, beginning};
 
 use crate::generated::begin_case;
-use kr_mounts::{BindFault, Mounted};
-use kr_tree::User;
-use kr_view::Plain;
-use pr_base::Bytes;
-use pr_io::{Sink, Source};
+use pr_gen::below::{Bytes, User};
+use pr_run::below::{Answer, Asked, BindFault, Mounted, Plain, Sink, Source, ask, read};
 use pr_run::{Plan, case_report, report};
-use pr_sources::{Answer, Asked, ask, read};
-use pr_start::below::{Rule, Stage, StartFault, settled};
+use pr_start::below::{Launch, Options, Rule, Stage, StartFault, settled};
 use pr_start::{Faker, Kernel, Tracer, Watch, start, start_traced, start_unmarked};
-use pr_words::{Launch, Options};
 use std::alloc::Global;
 
 /// A machine: a kernel over mounts, whose shelves are marked so that it tells whether a run is calm; or one that keeps no marks, where that

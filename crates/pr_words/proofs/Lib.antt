@@ -1,3 +1,4 @@
+pub use Rattle.pr_base.proofs as pr_base
 pub mod CutLemmas
 pub mod IndexLemmas
 pub mod LoopLemmas

@@ -1,3 +1,4 @@
+pub use Rattle.pr_base.specs as pr_base
 pub mod Answers
 pub mod Bindings
 pub mod Kept

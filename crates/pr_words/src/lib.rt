@@ -26,6 +26,7 @@
 //! Only tested, or not shown: `rows`.
 #![tactic(auto)]
 
+pub mod below;
 mod command;
 mod fault;
 mod front;

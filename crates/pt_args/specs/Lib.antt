@@ -1,3 +1,4 @@
+pub use Rattle.pt_canon.specs.pr_base as pr_base
 pub use Rattle.kr_calls.specs.rv_mem as rv_mem
 pub use Rattle.kr_calls.specs as kr_calls
 pub use Rattle.pt_canon.specs.pt_bind as pt_bind

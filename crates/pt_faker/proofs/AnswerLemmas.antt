@@ -3,8 +3,8 @@ use Rattle.std.proofs.Common.{◌≡◌, ◌∙◌, ◌≤◌, ◌==◌, ℕ, Bo
 use Rattle.std.specs.Prelude.{slice_index}
 use Rattle.std.specs.Option.{option_map}
 use Rattle.std.proofs.lemmas.Bool.Decides.{nat_tests}
-use Rattle.pr_base.specs.declared.errno.Errno.{Errno}
-use Rattle.pr_base.specs.declared.errno.Errno.TheVariants.{EINVAL, EPERM}
+use Rattle.elf_load.specs.pr_base.declared.errno.Errno.{Errno}
+use Rattle.elf_load.specs.pr_base.declared.errno.Errno.TheVariants.{EINVAL, EPERM}
 use Rattle.pt_ident.specs.kr_calls.declared.request.Request.{Request}
 use Rattle.pt_ident.specs.kr_calls.declared.request.Request.TheVariants as call
 use Rattle.pt_ident.specs.declared.calls.IdAnswer.TheVariants.{Value, Three, Groups, SetGroups}

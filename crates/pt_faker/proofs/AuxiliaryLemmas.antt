@@ -3,7 +3,7 @@ use Rattle.std.proofs.Common.{◌≡◌, ◌≢◌, ◌∙◌, ◌+◌, ◌%◌,
 use Rattle.std.specs.Int.{from_le_bytes, to_le_bytes}
 use Rattle.std.specs.Prelude.{IsSome}
 use Rattle.std.proofs.lemmas.Bool.Decides.{nat_tests}
-use Rattle.pr_base.specs.Fields.{little_endian}
+use Rattle.elf_load.specs.pr_base.Fields.{little_endian}
 use Rattle.pt_ident.specs.rv_mem.Actions.{Action, Done, ReadBytes, WriteBytes, carried_out}
 use Rattle.pt_ident.specs.rv_mem.Memory.{Memory, after_read}
 use Rattle.pt_ident.specs.rv_mem.Pages.{Pages, allows_all, bytes_from}

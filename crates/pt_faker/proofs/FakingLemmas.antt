@@ -3,8 +3,8 @@ use Rattle.std.specs.FinMap as map
 use Rattle.std.proofs.Common.{◌≡◌, ◌≢◌, ◌∙◌, ◌==◌, ℕ, Bool, true, false, Option, Some, None, Result, Ok, Err, if◌then◌else◌, refl, sym, ap}
 use Rattle.std.specs.Option.{option_map_or}
 use Rattle.std.specs.Ordering.{nat_cmp}
-use Rattle.pr_base.proofs.MapLemmas.{by_key, get-insert_other, get-insert_same, get-remove_other, get-remove_same, remove-none, same_values}
-use Rattle.pr_base.specs.declared.errno.Errno.{Errno}
+use Rattle.elf_load.proofs.pr_base.MapLemmas.{by_key, get-insert_other, get-insert_same, get-remove_other, get-remove_same, remove-none, same_values}
+use Rattle.elf_load.specs.pr_base.declared.errno.Errno.{Errno}
 use Rattle.pt_ident.specs.kr_calls.declared.request.Request.{Request}
 use Rattle.kr_stops.specs.Editing.{after_request, decoded_at, register_at}
 use Rattle.kr_stops.specs.Stopped.{Stopped}

@@ -4,7 +4,7 @@ use Rattle.std.specs.Int.{to_le_bytes}
 use Rattle.std.specs.List.{AllByRecursion}
 use Rattle.std.proofs.lemmas.Bool.Decides.{nat_tests}
 use Rattle.std.proofs.lemmas.Nat.{from_le_bytes-to_le_bytes_8}
-use Rattle.pr_base.specs.Fields.{little_endian}
+use Rattle.elf_load.specs.pr_base.Fields.{little_endian}
 use Rattle.pt_ident.specs.rv_mem.Actions.{Action, Done, ReadBytes, WriteBytes, carried_out}
 use Rattle.pt_ident.specs.rv_mem.Memory.{Memory, after_read}
 use Rattle.pt_ident.specs.rv_mem.Pages.{Pages, any_marked, written}

@@ -2,9 +2,9 @@
 use Rattle.std.proofs.Common.{◌≡◌, ◌≢◌, ◌∙◌, ◌+◌, ◌*◌, ◌-◌, ◌%◌, ◌^◌, ◌<◌, ℕ, zero, suc, Bool, true, false, cond, List, [], ◌∷◌, ◌++◌, length, nat_eq, nat_lt, arith, w64, Result, Ok, Err, if◌then◌else◌, refl, sym, ap, subst}
 use Rattle.std.specs.Prelude.{slice_index}
 use Rattle.std.specs.Int.{from_le_bytes}
-use Rattle.pr_base.specs.Fields.{little_endian}
-use Rattle.pr_base.specs.declared.errno.Errno.{Errno}
-use Rattle.pr_base.specs.declared.errno.Errno.TheVariants.{E2BIG, EFAULT}
+use Rattle.elf_load.specs.pr_base.Fields.{little_endian}
+use Rattle.elf_load.specs.pr_base.declared.errno.Errno.{Errno}
+use Rattle.elf_load.specs.pr_base.declared.errno.Errno.TheVariants.{E2BIG, EFAULT}
 use Rattle.pt_ident.specs.rv_mem.Actions.{Action, CarriedOut, Done, ReadBytes, carried_out}
 use Rattle.pt_ident.specs.rv_mem.Memory.{Memory, after_read}
 use Rattle.pt_ident.specs.rv_mem.Pages.{allows_all, bytes_from}

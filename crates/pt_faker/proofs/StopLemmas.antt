@@ -17,7 +17,7 @@ use Rattle.kr_stops.specs.kr_model.State.{Image}
 use Rattle.kr_stops.specs.Editing.{after_peek, after_poke, after_request, decoded_at, memory_at, with_memory, with_register}
 use Rattle.kr_stops.specs.Stopped.{IsEdited, IsThere, Stopped, edited, image_at}
 use Rattle.kr_stops.proofs.EditLemmas.{edited-by, edited-same, edited-twice, image-edited}
-use Rattle.pr_base.specs.declared.errno.Errno.TheVariants.{EFAULT}
+use Rattle.elf_load.specs.pr_base.declared.errno.Errno.TheVariants.{EFAULT}
 use Rattle.pt_ident.specs.Identity.{Answered, Identity, Numbers, answered, numbers_in, refusal, tell_numbers}
 use Rattle.pt_ident.specs.Showing.{shown_stat}
 use Rattle.pt_faker.specs.Carrying.{CarriesOut, on_its_memory}

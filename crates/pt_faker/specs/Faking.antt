@@ -5,9 +5,9 @@ use Rattle.std.specs.FinMap as map
 use Rattle.std.specs.Prelude.{ℕ, ◌+◌, ◌==◌, ◌&&◌, ◌^◌, ◌%◌, Bool, true, zero, suc, List, [], ◌∷◌, ℤ, Option, Some, None, Result, Ok, Err, if◌then◌else◌}
 use Rattle.std.specs.Int.{cast_unsigned, to_le_bytes, w64}
 use Rattle.std.specs.Ordering.{nat_cmp}
-use Rattle.pr_base.specs.Fields.{little_endian}
-use Rattle.pr_base.specs.declared.errno.Errno.{Errno}
-use Rattle.pr_base.specs.declared.errno.Errno.TheVariants.{EPERM}
+use Rattle.elf_load.specs.pr_base.Fields.{little_endian}
+use Rattle.elf_load.specs.pr_base.declared.errno.Errno.{Errno}
+use Rattle.elf_load.specs.pr_base.declared.errno.Errno.TheVariants.{EPERM}
 use Rattle.pt_ident.specs.rv_mem.Actions.{Action, Done, WriteBytes, carried_out, read_if_allowed, write_if_allowed}
 use Rattle.pt_ident.specs.rv_mem.declared.rights.Use.TheVariants.{Read, Write}
 use Rattle.pt_ident.specs.kr_inode.declared.user.User.{User}

@@ -1,8 +1,8 @@
 -- The lists of texts of execve(2), as a tracer reads them by peeks: address after address and byte after byte, where the first test
 -- that fails counts, as it does for the kernel. Addresses have 64 bits.
 use Rattle.std.specs.Prelude.{◌≡◌, ℕ, zero, suc, ◌+◌, ◌*◌, ◌-◌, ◌%◌, ◌^◌, nat_eq, List, [], ◌∷◌, ◌++◌, length, slice_index, Result, Ok, Err, if◌then◌else◌}
-use Rattle.pr_base.specs.declared.errno.Errno.{Errno}
-use Rattle.pr_base.specs.declared.errno.Errno.TheVariants.{EFAULT, E2BIG}
+use Rattle.elf_load.specs.pr_base.declared.errno.Errno.{Errno}
+use Rattle.elf_load.specs.pr_base.declared.errno.Errno.TheVariants.{EFAULT, E2BIG}
 use Rattle.pt_ident.specs.rv_mem.Actions.{Action, Done, read_if_allowed}
 use Rattle.pt_ident.specs.rv_mem.declared.rights.Use.TheVariants.{Read}
 use Rattle.pt_ident.specs.kr_calls.Expansion.{bytes_with_ends}

@@ -6,8 +6,8 @@ ghost use Rattle.pt_faker.specs.Carrying.{AnswersAny};
 
 use crate::asking::{group_list, number_places};
 use crate::memory::{take_groups, tell_groups, tell_numbers};
+use elf_load::below::pr_base::NoMemory;
 use kr_stops::Tracee;
-use pr_base::NoMemory;
 use pt_ident::below::kr_calls::Request;
 use pt_ident::{IdAnswer, Ids, answer};
 use std::alloc::Global;

@@ -5,8 +5,8 @@ ghost use Rattle.pt_faker.specs.Carrying.{GoesOn, on_its_memory};
 ghost use Rattle.pt_faker.specs.Faking.{behind_list, put_values, show_identity, word_at};
 
 use crate::memory::write;
+use elf_load::below::pr_base::NoMemory;
 use kr_stops::Tracee;
-use pr_base::NoMemory;
 use pt_ident::below::rv_mem::Use;
 use pt_ident::{Ids, fix_aux};
 

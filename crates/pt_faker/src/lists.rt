@@ -7,8 +7,8 @@ ghost use Rattle.pt_faker.specs.Reading.{addresses_behind, list_at, lists_at, te
 
 use crate::Tracee;
 use crate::text::{read_address, read_text_within};
-use pr_base::limits::{MOST_BYTES, MOST_TEXTS};
-use pr_base::{Bytes, Errno, NoMemory, Texts};
+use elf_load::below::pr_base::limits::{MOST_BYTES, MOST_TEXTS};
+use elf_load::below::pr_base::{Bytes, Errno, NoMemory, Texts};
 use pt_ident::below::kr_calls::CallFault;
 use pt_ident::below::rv_mem::Use;
 use std::alloc::Global;

@@ -7,8 +7,8 @@ ghost use Rattle.pt_ident.specs.Identity.{Identity, TakesGroups, TellsGroups, mo
 ghost use Rattle.pt_faker.specs.Carrying.{CarriesOut, on_its_memory};
 ghost use Rattle.pt_faker.specs.Faking.{show_owner};
 
+use elf_load::below::pr_base::{Errno, NoMemory};
 use kr_stops::Tracee;
-use pr_base::{Errno, NoMemory};
 use pt_ident::below::kr_inode::User;
 use pt_ident::below::rv_mem::Use;
 use pt_ident::{Identities, Ids, fix_stat, group_bytes, groups_in};

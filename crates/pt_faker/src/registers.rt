@@ -1,14 +1,14 @@
 //! The registers of a call on RISC-V, and what a second stop does to them.
 ghost use Rattle.std.specs.Prelude.{◌≡◌, ◌==◌, ◌&&◌};
-ghost use Rattle.pr_base.specs.declared.errno.Errno.TheVariants.{EPERM};
+ghost use Rattle.elf_load.specs.pr_base.declared.errno.Errno.TheVariants.{EPERM};
 ghost use Rattle.kr_stops.specs.Editing.{register_at};
 ghost use Rattle.pt_faker.specs.Stopping.{OnlyEdits};
 ghost use Rattle.pt_ident.specs.Identity.{refusal};
 ghost use Rattle.pt_faker.specs.Faking.{forgiven, has_answered_zero, no_longer_called, told, word_of};
 
 use crate::memory::refused;
+use elf_load::below::pr_base::Errno;
 use kr_stops::Tracee;
-use pr_base::Errno;
 
 /// a7, which has the number of a call.
 const NUMBER: u8 = 17;

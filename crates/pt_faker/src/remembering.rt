@@ -2,7 +2,7 @@
 ghost use Rattle.std.specs.Prelude.{◌≡◌, OnOk};
 ghost use Rattle.pt_faker.specs.Faking.{remembered};
 
-use pr_base::NoMemory;
+use elf_load::below::pr_base::NoMemory;
 use pt_ident::Identities;
 use pt_ident::below::pt_owner::Change;
 

@@ -6,8 +6,8 @@ ghost use Rattle.pt_faker.specs.Carrying.{CarriesOut};
 ghost use Rattle.pt_faker.specs.Reading.{byte_at, text_at, text_within, Reads};
 
 use crate::Tracee;
-use pr_base::limits::MOST_BYTES;
-use pr_base::{Bytes, Errno};
+use elf_load::below::pr_base::limits::MOST_BYTES;
+use elf_load::below::pr_base::{Bytes, Errno};
 use pt_ident::below::kr_calls::CallFault;
 use pt_ident::below::rv_mem::Use;
 use std::alloc::Global;

@@ -3,8 +3,8 @@
 use crate::faker::Faker;
 use crate::graphed::Graphed;
 use crate::laws::faker_is_its_definition;
+use elf_load::below::pr_base::NoMemory;
 use kr_stops::{Stops, Tracee};
-use pr_base::NoMemory;
 
 /// Who watches the calls of a run on the kernel with mounts.
 #[derive(Drop)]

@@ -5,15 +5,15 @@ use Rattle.std.specs.FinMap as map
 use Rattle.std.specs.Prelude.{Bool, true, false, codes, if◌then◌else◌}
 use Rattle.std.specs.List.{list_any}
 use Rattle.std.specs.Str.{bytes_eq}
-use Rattle.pr_base.specs.Peeks.{Peeked}
-use Rattle.pr_base.specs.WalkFrame.{walk_on}
-use Rattle.pr_base.specs.declared.errno.Errno.{Errno}
-use Rattle.pr_base.specs.declared.errno.Errno.TheVariants.{EACCES, EINVAL, ELOOP, ENOENT, ENOTDIR}
-use Rattle.pr_base.specs.declared.peeks.BaseKind.TheVariants as base
-use Rattle.pr_base.specs.declared.peeks.PeekKind.{PeekKind}
-use Rattle.pr_base.specs.declared.peeks.PeekKind.TheVariants as kind
-use Rattle.pt_bind.specs.Binding.{names_of}
-use Rattle.pt_canon.specs.TextWalk.{TextSurroundings, look_text, seen_text}
+use Rattle.pr_words.specs.pr_base.Peeks.{Peeked}
+use Rattle.pr_words.specs.pr_base.WalkFrame.{walk_on}
+use Rattle.pr_words.specs.pr_base.declared.errno.Errno.{Errno}
+use Rattle.pr_words.specs.pr_base.declared.errno.Errno.TheVariants.{EACCES, EINVAL, ELOOP, ENOENT, ENOTDIR}
+use Rattle.pr_words.specs.pr_base.declared.peeks.BaseKind.TheVariants as base
+use Rattle.pr_words.specs.pr_base.declared.peeks.PeekKind.{PeekKind}
+use Rattle.pr_words.specs.pr_base.declared.peeks.PeekKind.TheVariants as kind
+use Rattle.kr_first.specs.pt_bind.Binding.{names_of}
+use Rattle.pt_script.specs.pt_canon.TextWalk.{TextSurroundings, look_text, seen_text}
 use Rattle.pt_script.specs.kr_calls.Expansion.{expanded}
 use Rattle.pt_first.specs.GuestStart.{guest_start, searched, working_directory}
 use Rattle.pt_first.specs.declared.begun.Begun.{Begun}

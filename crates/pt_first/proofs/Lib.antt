@@ -1,3 +1,4 @@
+pub use Rattle.pr_words.proofs as pr_words
 mod GuestRows
 pub mod PeekLemmas
 pub mod StandingLemmas

@@ -1,12 +1,12 @@
 -- What is read where a walk of the host's own view ends.
 use Rattle.std.proofs.Common.{◌≡◌, Some, Result, Ok, Err, ap, ◌∙◌}
-use Rattle.pr_base.specs.declared.errno.Errno.{Errno}
-use Rattle.pr_base.specs.declared.errno.Errno.TheVariants.{ENOENT}
-use Rattle.kr_tree.specs.kr_inode.declared.user.User.{User}
-use Rattle.kr_tree.specs.declared.place.Host.{Host}
-use Rattle.kr_tree.specs.Tree.{Tree}
-use Rattle.kr_view.specs.View.{plain}
-use Rattle.kr_view.specs.Walk.{PlaceTarget}
+use Rattle.pr_words.specs.pr_base.declared.errno.Errno.{Errno}
+use Rattle.pr_words.specs.pr_base.declared.errno.Errno.TheVariants.{ENOENT}
+use Rattle.kr_first.specs.kr_inode.declared.user.User.{User}
+use Rattle.kr_first.specs.kr_tree.declared.place.Host.{Host}
+use Rattle.kr_first.specs.kr_tree.Tree.{Tree}
+use Rattle.kr_first.specs.kr_view.View.{plain}
+use Rattle.kr_first.specs.kr_view.Walk.{PlaceTarget}
 use Rattle.kr_first.specs.kr_model.Peeks.{at_found, kind_of_answer, kind_seen}
 use Rattle.kr_first.specs.Starting.{around}
 use Rattle.kr_hostview.specs.Peeking.{IsFound}

@@ -4,43 +4,43 @@ use Rattle.std.specs.Prelude.{if◌then◌else◌}
 use Rattle.std.specs.List.{All}
 use Rattle.std.specs.Option.{option_and_then, option_map_or, unwrap_or}
 use Rattle.std.proofs.lemmas.List.Elements.{All-append, All-cons, All-head, All-nil, All-tail}
-use Rattle.pr_base.specs.Alike.{Alike, OptionAlike, TargetAlike, both, ends, errs, neither}
-use Rattle.pr_base.specs.Paths.{AreNames, Dot, IsName, below_root, dot, is_absolute, slash, text_of}
-use Rattle.pr_base.specs.Texts.{Text}
-use Rattle.pr_base.specs.WalkFrame.{Leads, Target, target_at}
-use Rattle.pr_base.specs.WalkLaws.{last_trail}
-use Rattle.pr_base.specs.declared.errno.Errno.{Errno}
-use Rattle.pr_base.specs.declared.errno.Errno.TheVariants.{ENOENT}
-use Rattle.pr_base.specs.declared.path.WalkMode.TheVariants.{Look, LookLink}
-use Rattle.pr_base.specs.declared.peeks.PeekKind.{PeekKind}
-use Rattle.pr_base.specs.declared.peeks.PeekKind.TheVariants as kind
-use Rattle.pr_base.proofs.EndLemmas.{jump_is_shown}
-use Rattle.pr_base.proofs.PathLemmas.{names_are_parts}
-use Rattle.pr_base.proofs.WalkLemmas.{walks_go_by_components}
-use Rattle.pt_bind.specs.Binding.{host_of, names_of}
-use Rattle.pt_bind.specs.Tags.{TagTable}
-use Rattle.pt_bind.proofs.ByteLemmas.{names_written}
-use Rattle.pt_canon.specs.Canon.{canon_at, canon_of, canon_result, ending_of}
-use Rattle.pt_canon.specs.TextWalk.{TextSurroundings, in_directory, itself_in, look_text, looking_texts, text_walk, where_found}
-use Rattle.pt_canon.specs.declared.canon.Canon.{Canon}
+use Rattle.pr_words.specs.pr_base.Alike.{Alike, OptionAlike, TargetAlike, both, ends, errs, neither}
+use Rattle.pr_words.specs.pr_base.Paths.{AreNames, Dot, IsName, below_root, dot, is_absolute, slash, text_of}
+use Rattle.pr_words.specs.pr_base.Texts.{Text}
+use Rattle.pr_words.specs.pr_base.WalkFrame.{Leads, Target, target_at}
+use Rattle.pr_words.specs.pr_base.WalkLaws.{last_trail}
+use Rattle.pr_words.specs.pr_base.declared.errno.Errno.{Errno}
+use Rattle.pr_words.specs.pr_base.declared.errno.Errno.TheVariants.{ENOENT}
+use Rattle.pr_words.specs.pr_base.declared.path.WalkMode.TheVariants.{Look, LookLink}
+use Rattle.pr_words.specs.pr_base.declared.peeks.PeekKind.{PeekKind}
+use Rattle.pr_words.specs.pr_base.declared.peeks.PeekKind.TheVariants as kind
+use Rattle.pr_words.proofs.pr_base.EndLemmas.{jump_is_shown}
+use Rattle.pr_words.proofs.pr_base.PathLemmas.{names_are_parts}
+use Rattle.pr_words.proofs.pr_base.WalkLemmas.{walks_go_by_components}
+use Rattle.kr_first.specs.pt_bind.Binding.{host_of, names_of}
+use Rattle.kr_first.specs.pt_bind.Tags.{TagTable}
+use Rattle.kr_first.proofs.pt_bind.ByteLemmas.{names_written}
+use Rattle.pt_script.specs.pt_canon.Canon.{canon_at, canon_of, canon_result, ending_of}
+use Rattle.pt_script.specs.pt_canon.TextWalk.{TextSurroundings, in_directory, itself_in, look_text, looking_texts, text_walk, where_found}
+use Rattle.pt_script.specs.pt_canon.declared.canon.Canon.{Canon}
 use Rattle.pt_script.specs.Programs.{canon_from}
-use Rattle.kr_tree.specs.kr_inode.declared.user.User.{User}
-use Rattle.kr_tree.specs.declared.place.Host.{Host}
-use Rattle.kr_tree.specs.declared.place.Host.TheVariants.{Node, Proc}
-use Rattle.kr_tree.specs.declared.place.Place.{Place}
-use Rattle.kr_tree.specs.Tree.{Body, Directory, ProcessDirectory, RegularFile, SymbolicLink, Tree, body, is_directory}
-use Rattle.kr_tree.proofs.EntryLemmas.{body_test}
-use Rattle.kr_tree.proofs.NameLemmas.{some_is}
-use Rattle.kr_view.specs.declared.procs.Lead.TheVariants.{NoLink}
-use Rattle.kr_view.specs.Component.{Namespace, Surroundings, is_directory_at, is_process_directory, seen_at, seen_body, seen_link, shows_directory}
-use Rattle.kr_view.specs.HostReach.{host_place}
-use Rattle.kr_view.specs.Processes.{LawsOfProcesses, no_finds, no_leads}
-use Rattle.kr_view.specs.ReachLaws.{IsReachedBy}
-use Rattle.kr_view.specs.View.{Row, plain, root_place}
-use Rattle.kr_view.specs.Walk.{PlaceTarget, place_walk}
-use Rattle.kr_view.proofs.ArrivalLemmas.{texts_are_found}
-use Rattle.kr_view.proofs.HostReachLemmas.{reached_names, reached_there}
-use Rattle.kr_view.proofs.ProcessLemmas.{no_processes}
+use Rattle.kr_first.specs.kr_inode.declared.user.User.{User}
+use Rattle.kr_first.specs.kr_tree.declared.place.Host.{Host}
+use Rattle.kr_first.specs.kr_tree.declared.place.Host.TheVariants.{Node, Proc}
+use Rattle.kr_first.specs.kr_tree.declared.place.Place.{Place}
+use Rattle.kr_first.specs.kr_tree.Tree.{Body, Directory, ProcessDirectory, RegularFile, SymbolicLink, Tree, body, is_directory}
+use Rattle.kr_first.proofs.kr_tree.EntryLemmas.{body_test}
+use Rattle.kr_first.proofs.kr_tree.NameLemmas.{some_is}
+use Rattle.kr_first.specs.kr_view.declared.procs.Lead.TheVariants.{NoLink}
+use Rattle.kr_first.specs.kr_view.Component.{Namespace, Surroundings, is_directory_at, is_process_directory, seen_at, seen_body, seen_link, shows_directory}
+use Rattle.kr_first.specs.kr_view.HostReach.{host_place}
+use Rattle.kr_first.specs.kr_view.Processes.{LawsOfProcesses, no_finds, no_leads}
+use Rattle.kr_first.specs.kr_view.ReachLaws.{IsReachedBy}
+use Rattle.kr_first.specs.kr_view.View.{Row, plain, root_place}
+use Rattle.kr_first.specs.kr_view.Walk.{PlaceTarget, place_walk}
+use Rattle.kr_first.proofs.kr_view.ArrivalLemmas.{texts_are_found}
+use Rattle.kr_first.proofs.kr_view.HostReachLemmas.{reached_names, reached_there}
+use Rattle.kr_first.proofs.kr_view.ProcessLemmas.{no_processes}
 use Rattle.kr_first.specs.law_allowed.Texts.{IsText}
 use Rattle.kr_first.specs.kr_model.Peeks.{at_found, body_text, kind_of_answer, kind_seen, read_at, read_of}
 use Rattle.kr_first.specs.Started.{LeadsToDirectory}

@@ -1,13 +1,13 @@
 -- What a start in guest terms comes to, taken apart.
 use Rattle.std.proofs.Common.{◌≡◌, ℕ, Bool, true, false, List, [], ◌∷◌, Option, Some, None, Result, Ok, Err, refl, sym, ap, subst, ◌∙◌}
 use Rattle.std.specs.Prelude.{take, if◌then◌else◌}
-use Rattle.pr_base.specs.Paths.{dot, is_absolute, slash, text_of}
-use Rattle.pr_base.specs.declared.errno.Errno.{Errno}
-use Rattle.pr_base.specs.declared.errno.Errno.TheVariants.{E2BIG}
+use Rattle.pr_words.specs.pr_base.Paths.{dot, is_absolute, slash, text_of}
+use Rattle.pr_words.specs.pr_base.declared.errno.Errno.{Errno}
+use Rattle.pr_words.specs.pr_base.declared.errno.Errno.TheVariants.{E2BIG}
 use Rattle.pr_words.specs.Command.{arguments, word_of}
-use Rattle.pt_bind.specs.Tags.{TagTable}
-use Rattle.pt_canon.specs.TextWalk.{TextSurroundings}
-use Rattle.pt_canon.specs.declared.canon.Canon.{Canon}
+use Rattle.kr_first.specs.pt_bind.Tags.{TagTable}
+use Rattle.pt_script.specs.pt_canon.TextWalk.{TextSurroundings}
+use Rattle.pt_script.specs.pt_canon.declared.canon.Canon.{Canon}
 use Rattle.pt_script.specs.pt_args.Walks.{and_then}
 use Rattle.pt_script.specs.Expanding.{expanded_from}
 use Rattle.pt_script.specs.Programs.{base_from, canon_from, program_from, program_in}
@@ -18,10 +18,10 @@ use Rattle.pt_script.specs.kr_calls.Expansion.{bytes_with_ends}
 use Rattle.kr_first.specs.kr_exec.Exec.{are_too_big}
 use Rattle.kr_first.specs.Started.{LeadsToDirectory}
 use Rattle.kr_first.specs.Starting.{is_walked, path_errno}
-use Rattle.kr_tree.specs.kr_inode.declared.user.User.{User}
+use Rattle.kr_first.specs.kr_inode.declared.user.User.{User}
 use Rattle.kr_first.specs.law_allowed.Texts.{IsText}
-use Rattle.kr_tree.specs.Tree.{Tree}
-use Rattle.kr_view.specs.View.{Row, plain}
+use Rattle.kr_first.specs.kr_tree.Tree.{Tree}
+use Rattle.kr_first.specs.kr_view.View.{Row, plain}
 use Rattle.kr_first.specs.law_walks.Settled.{IsSettled}
 use Rattle.pt_first.specs.GuestStart.{begun, chosen, directory_at, handed, run_from, run_with, started_at, text_or_root, working_directory}
 use Rattle.pt_first.specs.Laws.{FirstsCanStart, first_texts}

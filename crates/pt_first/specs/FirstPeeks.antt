@@ -1,20 +1,20 @@
 -- What a tracer is told before a process lives: what walks of the host's own view find then, where the process directory has no names and
 -- a last link isn't followed.
 use Rattle.std.specs.Prelude.{ℕ, Bool, List, [], Option, None, Result, Err}
-use Rattle.pr_base.specs.Peeks.{Peeked}
-use Rattle.pr_base.specs.declared.errno.Errno.{Errno}
-use Rattle.pr_base.specs.declared.errno.Errno.TheVariants.{EINVAL}
-use Rattle.pr_base.specs.declared.path.WalkMode.TheVariants.{LookLink}
-use Rattle.pr_base.specs.declared.peeks.BaseKind.TheVariants as base_kind
-use Rattle.pr_base.specs.declared.peeks.PeekKind.{PeekKind}
-use Rattle.kr_tree.specs.kr_inode.declared.user.User.{User}
-use Rattle.kr_tree.specs.declared.place.Host.{Host}
-use Rattle.kr_tree.specs.declared.place.Host.TheVariants.{Node, Proc}
-use Rattle.kr_tree.specs.Tree.{Tree, body}
-use Rattle.kr_view.specs.Component.{seen_at}
-use Rattle.kr_view.specs.HostReach.{host_place}
-use Rattle.kr_view.specs.View.{plain, root_place}
-use Rattle.kr_view.specs.Walk.{PlaceTarget, PlaceTrail, place_walk}
+use Rattle.pr_words.specs.pr_base.Peeks.{Peeked}
+use Rattle.pr_words.specs.pr_base.declared.errno.Errno.{Errno}
+use Rattle.pr_words.specs.pr_base.declared.errno.Errno.TheVariants.{EINVAL}
+use Rattle.pr_words.specs.pr_base.declared.path.WalkMode.TheVariants.{LookLink}
+use Rattle.pr_words.specs.pr_base.declared.peeks.BaseKind.TheVariants as base_kind
+use Rattle.pr_words.specs.pr_base.declared.peeks.PeekKind.{PeekKind}
+use Rattle.kr_first.specs.kr_inode.declared.user.User.{User}
+use Rattle.kr_first.specs.kr_tree.declared.place.Host.{Host}
+use Rattle.kr_first.specs.kr_tree.declared.place.Host.TheVariants.{Node, Proc}
+use Rattle.kr_first.specs.kr_tree.Tree.{Tree, body}
+use Rattle.kr_first.specs.kr_view.Component.{seen_at}
+use Rattle.kr_first.specs.kr_view.HostReach.{host_place}
+use Rattle.kr_first.specs.kr_view.View.{plain, root_place}
+use Rattle.kr_first.specs.kr_view.Walk.{PlaceTarget, PlaceTrail, place_walk}
 use Rattle.kr_first.specs.kr_model.Peeks.{body_text, head_at, kind_along, kind_seen, read_of, steady_along}
 use Rattle.kr_first.specs.Starting.{around}
 

@@ -1,16 +1,16 @@
 -- The start of a run in guest terms: the first working directory, the command, and the program that runs in the end, each found as a
 -- tracer finds it before a process lives, and handed to the plain kernel by its host text.
 use Rattle.std.specs.Prelude.{◌≡◌, ℕ, nat_lt, Bool, true, false, List, [], ◌∷◌, length, Option, Some, None, Result, Ok, Err, if◌then◌else◌}
-use Rattle.pr_base.specs.MountText.{MountText}
-use Rattle.pr_base.specs.Paths.{slash, dot, is_absolute, text_of}
-use Rattle.pr_base.specs.declared.errno.Errno.{Errno}
-use Rattle.pr_base.specs.declared.errno.Errno.TheVariants.{E2BIG, ENAMETOOLONG, ENOENT}
+use Rattle.pr_words.specs.pr_base.MountText.{MountText}
+use Rattle.pr_words.specs.pr_base.Paths.{slash, dot, is_absolute, text_of}
+use Rattle.pr_words.specs.pr_base.declared.errno.Errno.{Errno}
+use Rattle.pr_words.specs.pr_base.declared.errno.Errno.TheVariants.{E2BIG, ENAMETOOLONG, ENOENT}
 use Rattle.pr_words.specs.Command.{arguments, candidate, directories, has_slash, ids_of, path_of, word_of}
-use Rattle.pt_bind.specs.Binding.{host_of, index_of, names_of}
-use Rattle.pt_bind.specs.Tags.{TagTable, with_tag}
-use Rattle.pt_bind.specs.declared.slot.Slot.TheVariants as slot
-use Rattle.pt_canon.specs.TextWalk.{TextSurroundings}
-use Rattle.pt_canon.specs.declared.canon.Canon.{Canon}
+use Rattle.kr_first.specs.pt_bind.Binding.{host_of, index_of, names_of}
+use Rattle.kr_first.specs.pt_bind.Tags.{TagTable, with_tag}
+use Rattle.kr_first.specs.pt_bind.declared.slot.Slot.TheVariants as slot
+use Rattle.pt_script.specs.pt_canon.TextWalk.{TextSurroundings}
+use Rattle.pt_script.specs.pt_canon.declared.canon.Canon.{Canon}
 use Rattle.pt_script.specs.pt_args.Edits.{longest_path}
 use Rattle.pt_script.specs.pt_args.Walks.{and_then}
 use Rattle.pt_script.specs.Expanding.{expanded_from}

@@ -1,11 +1,11 @@
 -- What a kernel asks of its first process follows from how a tracer finds it.
 use Rattle.std.specs.Prelude.{◌≡◌, List, Ok}
-use Rattle.pt_bind.specs.Tags.{TagTable}
-use Rattle.pt_canon.specs.TextWalk.{TextSurroundings}
-use Rattle.kr_tree.specs.kr_inode.declared.user.User.{User}
-use Rattle.kr_tree.specs.Tree.{Tree}
-use Rattle.kr_view.specs.Processes.{no_finds}
-use Rattle.kr_view.specs.View.{Row, plain}
+use Rattle.kr_first.specs.pt_bind.Tags.{TagTable}
+use Rattle.pt_script.specs.pt_canon.TextWalk.{TextSurroundings}
+use Rattle.kr_first.specs.kr_inode.declared.user.User.{User}
+use Rattle.kr_first.specs.kr_tree.Tree.{Tree}
+use Rattle.kr_first.specs.kr_view.Processes.{no_finds}
+use Rattle.kr_first.specs.kr_view.View.{Row, plain}
 use Rattle.kr_first.specs.kr_mounts.Standing.{texts_of}
 use Rattle.kr_first.specs.law_allowed.Texts.{IsText}
 use Rattle.kr_first.specs.Started.{LeadsToDirectory}

@@ -1,16 +1,16 @@
 //! The command, searched in the directories of PATH where its word has no slash.
 ghost use Rattle.std.specs.Prelude.{◌≡◌, IfOk, map};
-ghost use Rattle.pt_bind.specs.Binding.{IsWritten};
-ghost use Rattle.pt_canon.specs.Canon.{texts_by};
+ghost use Rattle.kr_first.specs.pt_bind.Binding.{IsWritten};
+ghost use Rattle.pt_script.specs.pt_canon.Canon.{texts_by};
 ghost use Rattle.pt_first.specs.GuestStart.{chosen, is_there, searched};
-ghost use Rattle.pt_canon.specs.Leaving.{OnlyPeeks};
-ghost use Rattle.pt_canon.specs.Remembering.{Agrees, WalksOn};
+ghost use Rattle.pt_script.specs.pt_canon.Leaving.{OnlyPeeks};
+ghost use Rattle.pt_script.specs.pt_canon.Remembering.{Agrees, WalksOn};
 
 use crate::launcher::Launcher;
-use pr_base::{Bytes, NoMemory, Peeks, Texts, is_walked};
+use pr_words::below::{Bytes, NoMemory, Peeks, Texts, is_walked};
 use pr_words::{candidate, directories, has_slash, path_of};
-use pt_canon::{WalkErr, Walker};
 use pt_script::Finder;
+use pt_script::below::{WalkErr, Walker};
 
 impl<'a> Launcher<'a> {
     /// Whether a path leads from the working directory to a program that the user may execute.

@@ -1,15 +1,14 @@
 //! The first working directory.
 ghost use Rattle.std.specs.Prelude.{◌≡◌, IfOk};
-ghost use Rattle.pt_bind.specs.Binding.{IsWritten};
-ghost use Rattle.pt_canon.specs.Canon.{IsAnswer, texts_by};
+ghost use Rattle.kr_first.specs.pt_bind.Binding.{IsWritten};
+ghost use Rattle.pt_script.specs.pt_canon.Canon.{IsAnswer, texts_by};
 ghost use Rattle.pt_script.specs.Programs.{canon_from};
 ghost use Rattle.pt_first.specs.GuestStart.{directory_at, working_directory};
-ghost use Rattle.pt_canon.specs.Leaving.{OnlyPeeks};
-ghost use Rattle.pt_canon.specs.Remembering.{Agrees, WalksOn};
+ghost use Rattle.pt_script.specs.pt_canon.Leaving.{OnlyPeeks};
+ghost use Rattle.pt_script.specs.pt_canon.Remembering.{Agrees, WalksOn};
 
-use pr_base::{Bytes, NoMemory, Peeks, WalkMode, is_walked};
-use pt_bind::Tags;
-use pt_canon::{Canon, WalkErr, Walker};
+use pr_words::below::{Bytes, NoMemory, Peeks, WalkMode, is_walked};
+use pt_script::below::{Canon, Tags, WalkErr, Walker};
 use std::alloc::Global;
 
 /// The root's guest text.

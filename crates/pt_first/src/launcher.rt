@@ -1,6 +1,6 @@
 //! What the first program is found by.
 
-use pt_bind::Tags;
+use pt_script::below::Tags;
 use std::alloc::Global;
 
 /// What the first program is found by: the tags of all processes, and the guest text of the first working directory.

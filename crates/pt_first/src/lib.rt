@@ -17,6 +17,7 @@
 #![tactic(auto)]
 
 pub mod begun;
+pub mod below;
 mod command;
 mod directory;
 mod launcher;

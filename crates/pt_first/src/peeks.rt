@@ -1,13 +1,13 @@
 //! What a tracer is told before a process lives.
 ghost use Rattle.std.specs.Prelude.{◌≡◌, ℕ, take, IfOk};
 ghost use Rattle.std.specs.Option.{option_map};
-ghost use Rattle.pr_base.specs.Peeks.{IsPeeked};
-ghost use Rattle.pr_base.specs.declared.path.WalkMode.TheVariants.{LookLink};
-ghost use Rattle.kr_tree.specs.declared.place.Host.TheVariants.{Node};
-ghost use Rattle.kr_view.specs.Answers.{IsAnswer, IsReached};
-ghost use Rattle.kr_view.specs.Reach.{nothing};
-ghost use Rattle.kr_view.specs.View.{plain};
-ghost use Rattle.kr_view.specs.declared.view.HostMount.{HostMount};
+ghost use Rattle.pr_words.specs.pr_base.Peeks.{IsPeeked};
+ghost use Rattle.pr_words.specs.pr_base.declared.path.WalkMode.TheVariants.{LookLink};
+ghost use Rattle.kr_first.specs.kr_tree.declared.place.Host.TheVariants.{Node};
+ghost use Rattle.kr_first.specs.kr_view.Answers.{IsAnswer, IsReached};
+ghost use Rattle.kr_first.specs.kr_view.Reach.{nothing};
+ghost use Rattle.kr_first.specs.kr_view.View.{plain};
+ghost use Rattle.kr_first.specs.kr_view.declared.view.HostMount.{HostMount};
 ghost use Rattle.kr_first.specs.Starting.{around};
 ghost use Rattle.kr_first.specs.kr_model.Peeks.{head_at};
 ghost use Rattle.kr_hostview.specs.NoJumps.{no-jump-along};
@@ -15,10 +15,9 @@ ghost use Rattle.kr_hostview.specs.OnHost.{number};
 ghost use Rattle.kr_hostview.specs.Peeking.{IsFound};
 ghost use Rattle.pt_first.specs.FirstPeeks.{answer_along, first_peeked, host_walk, is_steady_path, kind_at, link_text_at};
 
-use kr_tree::{Host, Ino, Kind, ProcAt, Right, Tree, User};
-use kr_view::{HostMount, NoProcs, Places, Plain, Reach, Target, WalkFault};
-use kr_walk::resolve;
-use pr_base::{BaseKind, Bytes, Errno, NoMemory, PeekFault, PeekKind, Peeks, WalkMode};
+use kr_first::below::{Host, Ino, Kind, ProcAt, Right, Tree, User};
+use kr_hostview::below::{HostMount, NoProcs, Places, Plain, Reach, Target, WalkFault, resolve};
+use pr_words::below::{BaseKind, Bytes, Errno, NoMemory, PeekFault, PeekKind, Peeks, WalkMode};
 use std::alloc::Global;
 use std::marker::Model;
 
@@ -34,7 +33,7 @@ pub struct FirstPeeks<'a> {
 
 impl<'a> Model for FirstPeeks<'a> {
     ghost use Rattle.std.specs.Coded.{codes};
-    ghost use Rattle.kr_tree.specs.Tree.{tree_code};
+    ghost use Rattle.kr_first.specs.kr_tree.Tree.{tree_code};
     ghost use Rattle.pt_first.specs.FirstPeeks.{Asked};
 
     ghost Value = { Asked };

@@ -1,19 +1,20 @@
 //! The program that runs in the end.
 ghost use Rattle.std.specs.Prelude.{◌≡◌, ◌≤◌, ◌<◌, length, false, true, IfOk, MatchOption};
-ghost use Rattle.pt_bind.specs.Binding.{IsWritten};
-ghost use Rattle.pt_canon.specs.Canon.{IsAnswer, texts_by};
+ghost use Rattle.kr_first.specs.pt_bind.Binding.{IsWritten};
+ghost use Rattle.pt_script.specs.pt_canon.Canon.{IsAnswer, texts_by};
 ghost use Rattle.pt_script.specs.kr_calls.Expansion.{bytes_with_ends};
 ghost use Rattle.kr_first.specs.kr_exec.Exec.{are_too_big};
 ghost use Rattle.kr_first.specs.Starting.{path_errno};
 ghost use Rattle.pt_first.specs.GuestStart.{base_of, handed, if_short, run_from, run_with};
-ghost use Rattle.pt_canon.specs.Leaving.{OnlyPeeks};
-ghost use Rattle.pt_canon.specs.Remembering.{Agrees, WalksOn};
+ghost use Rattle.pt_script.specs.pt_canon.Leaving.{OnlyPeeks};
+ghost use Rattle.pt_script.specs.pt_canon.Remembering.{Agrees, WalksOn};
 
 use crate::directory::{ROOT, canon_from};
 use crate::launcher::Launcher;
-use pr_base::limits::{MOST_BYTES, MOST_TEXTS, PATH_MAX};
-use pr_base::{Bytes, Errno, Peeks, Texts, components, is_walked};
-use pt_canon::{Canon, WalkErr, Walker};
+use pr_words::below::{
+    Bytes, Errno, MOST_BYTES, MOST_TEXTS, PATH_MAX, Peeks, Texts, components, is_walked,
+};
+use pt_script::below::{Canon, WalkErr, Walker};
 use pt_script::{Expanded, Finder, bytes_within, is_too_big};
 
 /// How many bytes a path has at most.

@@ -1,24 +1,23 @@
 //! The start.
 ghost use Rattle.std.specs.Prelude.{◌≡◌, IfOk, OnErr, OnOk};
-ghost use Rattle.pt_bind.specs.Binding.{IsWritten, rows_of};
-ghost use Rattle.pt_canon.specs.Canon.{IsAnswer, texts_by};
+ghost use Rattle.kr_first.specs.pt_bind.Binding.{IsWritten, rows_of};
+ghost use Rattle.pt_script.specs.pt_canon.Canon.{IsAnswer, texts_by};
 ghost use Rattle.pt_first.specs.FirstPeeks.{first_peeked};
 ghost use Rattle.pt_first.specs.GuestStart.{IsBegun, begun, guest_start, tagged};
-ghost use Rattle.pt_canon.specs.Leaving.{OnlyPeeks};
-ghost use Rattle.pt_canon.specs.Remembering.{Agrees, WalksOn};
+ghost use Rattle.pt_script.specs.pt_canon.Leaving.{OnlyPeeks};
+ghost use Rattle.pt_script.specs.pt_canon.Remembering.{Agrees, WalksOn};
 
 use crate::begun::Begun;
 use crate::directory::working_directory;
 use crate::launcher::Launcher;
 use crate::peeks::FirstPeeks;
+use kr_first::below::{Tree, User};
 use kr_first::{First, StartFault};
-use kr_tree::{Tree, User};
-use kr_view::Reach;
-use pr_base::{Errno, NoMemory, Peeks, Texts};
+use kr_hostview::below::Reach;
+use pr_words::below::{Errno, NoMemory, Peeks, Texts};
 use pr_words::{Launch, arguments, word_of};
-use pt_bind::{Table, Tags};
-use pt_canon::{WalkErr, Walker};
 use pt_script::Expanded;
+use pt_script::below::{Table, Tags, WalkErr, Walker};
 use std::alloc::Global;
 
 /// The number of the first process.

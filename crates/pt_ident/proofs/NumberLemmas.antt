@@ -1,8 +1,8 @@
 -- Where the numbers come from that a call sets, and what stays where it is refused.
 use Rattle.std.proofs.Common.{◌≡◌, ◌∙◌, ◌⊎◌, ◌==◌, ◌&&◌, ◌||◌, ◌*◌, ℕ, Bool, true, false, [], ◌∷◌, length, pos, negsuc, Option, Some, None, Result, Ok, Err, if◌then◌else◌, nat_eq, nat_lt, refl, sym, ap, subst, inl, inr, arith, w32}
 use Rattle.std.specs.Int.{to_le_bytes}
-use Rattle.pr_base.specs.declared.errno.Errno.{Errno}
-use Rattle.pr_base.specs.declared.errno.Errno.TheVariants.{EPERM, EINVAL, EFAULT}
+use Rattle.kr_inode.specs.pr_base.declared.errno.Errno.{Errno}
+use Rattle.kr_inode.specs.pr_base.declared.errno.Errno.TheVariants.{EPERM, EINVAL, EFAULT}
 use Rattle.kr_calls.specs.rv_mem.Actions.{ReadBytes, WriteBytes, carried_out, allows_uses}
 use Rattle.kr_calls.specs.rv_mem.Memory.{Memory}
 use Rattle.kr_calls.specs.rv_mem.declared.rights.Use.TheVariants.{Read, Write}

@@ -3,7 +3,7 @@ use Rattle.std.proofs.Common.{◌≡◌, ◌∙◌, ◌<◌, ◌^◌, ◌==◌, 
 use Rattle.std.specs.Int.{to_le_bytes, w32, w64}
 use Rattle.std.proofs.Math.Seq.{sets}
 use Rattle.std.proofs.lemmas.Nat.{from_le_bytes-to_le_bytes_8}
-use Rattle.pr_base.specs.Fields.{little_endian}
+use Rattle.kr_inode.specs.pr_base.Fields.{little_endian}
 use Rattle.kr_inode.specs.declared.user.User.{User}
 use Rattle.kr_calls.specs.declared.stat.Stat.{Stat}
 use Rattle.kr_calls.specs.Stats.{stat_layout}

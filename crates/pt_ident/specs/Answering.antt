@@ -1,6 +1,6 @@
 -- What is answered before the memory of the process is looked at.
 use Rattle.std.specs.Prelude.{Option, Some, None, List, ℕ, Result, Ok, Err}
-use Rattle.pr_base.specs.declared.errno.Errno.{Errno}
+use Rattle.kr_inode.specs.pr_base.declared.errno.Errno.{Errno}
 use Rattle.pt_ident.specs.declared.calls.IdAnswer.{IdAnswer}
 use Rattle.pt_ident.specs.declared.calls.IdAnswer.TheVariants.{Value, Three, Groups, SetGroups}
 use Rattle.pt_ident.specs.Identity.{Identity, Numbers, Effect, Answers, TellsNumbers, TellsGroups, TakesGroups, numbers_of, three_of}

@@ -3,9 +3,9 @@
 use Rattle.std.specs.Prelude.{ℕ, ◌*◌, ◌==◌, ◌&&◌, ◌||◌, Bool, true, false, nat_lt, List, [], ◌∷◌, length, slice_index, ℤ, pos, negsuc, neg_ℤ, Option, Some, None, Result, Ok, Err, if◌then◌else◌}
 use Rattle.std.specs.Int.{to_le_bytes, from_le_bytes, w32}
 use Rattle.std.specs.List.{flat_map, list_any}
-use Rattle.pr_base.specs.declared.errno.Errno.{Errno}
-use Rattle.pr_base.specs.declared.errno.Errno.TheVariants.{EPERM, EFAULT, EINVAL}
-use Rattle.pr_base.specs.Errno.{errno_number}
+use Rattle.kr_inode.specs.pr_base.declared.errno.Errno.{Errno}
+use Rattle.kr_inode.specs.pr_base.declared.errno.Errno.TheVariants.{EPERM, EFAULT, EINVAL}
+use Rattle.kr_inode.specs.pr_base.Errno.{errno_number}
 use Rattle.kr_calls.specs.rv_mem.Actions.{Action, Done, MayUse, WriteBytes, read_if_allowed, write_if_allowed}
 use Rattle.kr_calls.specs.rv_mem.declared.rights.Use.TheVariants.{Read, Write}
 use Rattle.kr_calls.specs.declared.request.Request.{Request}

@@ -3,7 +3,7 @@
 use Rattle.std.specs.Prelude.{ℕ, ◌==◌, ◌/◌, ◌&&◌, ◌||◌, Bool, List, [], ◌∷◌, Option, Some, None, take, drop, if◌then◌else◌}
 use Rattle.std.specs.Int.{to_le_bytes, w32}
 use Rattle.std.proofs.Math.Seq.{sets}
-use Rattle.pr_base.specs.Fields.{little_endian}
+use Rattle.kr_inode.specs.pr_base.Fields.{little_endian}
 use Rattle.kr_inode.specs.declared.user.User.{User}
 use Rattle.pt_owner.specs.declared.change.Shown.{Shown}
 use Rattle.pt_owner.specs.Owners.{Remembered, modes, shown_of}

@@ -7,7 +7,7 @@ ghost use Rattle.pt_ident.specs.Identity.{effect, get_groups, keeps_group, keeps
 use crate::ids::{EFFECTIVE, Ids, REAL};
 use crate::setting::{set_one, set_three, set_two};
 use kr_calls::Request;
-use pr_base::Errno;
+use kr_inode::below::pr_base::Errno;
 
 /// What is answered, as far as it is known before the memory of the process is looked at.
 #[derive(Clone, Copy)]

@@ -2,7 +2,7 @@
 ghost use Rattle.std.specs.Prelude.{◌≡◌, ◌≤◌, IfOk, length};
 ghost use Rattle.pt_ident.specs.Identity.{after_exec, child_of, is_privileged, most_groups, numbers_of, saved_by_exec, starting, three_of, with_groups};
 
-use pr_base::NoMemory;
+use kr_inode::below::pr_base::NoMemory;
 use std::alloc::Global;
 use std::marker::Model;
 

@@ -3,7 +3,7 @@ ghost use Rattle.std.specs.Prelude.{◌≡◌};
 ghost use Rattle.pt_ident.specs.Answering.{seen};
 ghost use Rattle.pt_ident.specs.Identity.{is_allowed, is_among, numbers_of, or_old, set_one, set_three, set_two};
 
-use pr_base::Errno;
+use kr_inode::below::pr_base::Errno;
 
 const NO_NUMBER: u32 = 0xffff_ffff;
 

@@ -7,8 +7,8 @@ ghost use Rattle.pt_ident.specs.Showing.{auxiliary_values, field, is_of_tree, sh
 
 use crate::ids::{EFFECTIVE, Ids, REAL};
 use kr_inode::User;
-use pr_base::limits::MODES;
-use pr_base::{field_u32, field_u64};
+use kr_inode::below::pr_base::limits::MODES;
+use kr_inode::below::pr_base::{field_u32, field_u64};
 use pt_owner::{Owners, Shown};
 
 /// The places of `st_dev`, `st_ino`, `st_mode`, `st_uid` and `st_gid` in the structure `stat`.

@@ -2,7 +2,7 @@
 ghost use Rattle.std.specs.Prelude.{◌≡◌, IfOk};
 ghost use Rattle.pt_ident.specs.Identity.{number_bytes, numbers_in};
 
-use pr_base::{Bytes, NoMemory};
+use kr_inode::below::pr_base::{Bytes, NoMemory};
 use std::alloc::Global;
 
 /// The bytes of groups.

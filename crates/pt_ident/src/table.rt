@@ -3,7 +3,7 @@ ghost use Rattle.std.specs.Prelude.{◌≡◌, IfOk, OnOk};
 ghost use Rattle.std.specs.Option.{option_copied};
 
 use crate::ids::Ids;
-use pr_base::NoMemory;
+use kr_inode::below::pr_base::NoMemory;
 use pt_owner::{Change, Owners};
 use std::alloc::Global;
 use std::collections::BTreeMap;

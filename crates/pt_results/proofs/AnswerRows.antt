@@ -1,8 +1,8 @@
 -- Answers and notes worked out by hand.
 use Rattle.std.proofs.Common.{◌≡◌, [], ◌∷◌, ◌++◌, None, Some, Ok, Err, negsuc, pos, refl}
 use Rattle.std.specs.Prelude.{codes}
-use Rattle.pr_base.specs.declared.errno.Errno.TheVariants.{ENOENT, ERANGE}
-use Rattle.pt_bind.specs.declared.slot.Slot.TheVariants.{Cwd, Exe, Fd}
+use Rattle.pt_args.specs.pr_base.declared.errno.Errno.TheVariants.{ENOENT, ERANGE}
+use Rattle.pt_args.specs.pt_bind.declared.slot.Slot.TheVariants.{Cwd, Exe, Fd}
 use Rattle.pt_args.specs.kr_calls.declared.request.Request.TheVariants as call
 use Rattle.pt_args.specs.declared.edit.Edit.TheVariants.{Cancel, Emulate}
 use Rattle.pt_results.specs.Answers.{directory_answer, lead_answer, nowhere_answer}

@@ -1,12 +1,12 @@
 -- A link of the process directory, followed from its directory.
 use Rattle.std.proofs.Common.{◌≡◌, ℕ, true, false, List, [], ◌∷◌, Some, None, refl, ap, ◌∙◌}
 use Rattle.std.specs.Bool.{if◌then◌else◌}
-use Rattle.pr_base.specs.Paths.{IsPart, Name}
-use Rattle.pr_base.specs.Texts.{Text}
-use Rattle.pr_base.specs.WalkFrame.{Jumps, Looking, Trail, after_look, at_last, begins_at, landed, most_links, onward, walk_on}
-use Rattle.pr_base.specs.declared.path.WalkMode.TheVariants as mode
-use Rattle.pr_base.proofs.PathLemmas.{part_components, part_no_slash, part_relative}
-use Rattle.pr_base.proofs.WalkLemmas.{walk-last}
+use Rattle.pt_args.specs.pr_base.Paths.{IsPart, Name}
+use Rattle.pt_args.specs.pr_base.Texts.{Text}
+use Rattle.pt_args.specs.pr_base.WalkFrame.{Jumps, Looking, Trail, after_look, at_last, begins_at, landed, most_links, onward, walk_on}
+use Rattle.pt_args.specs.pr_base.declared.path.WalkMode.TheVariants as mode
+use Rattle.pt_args.proofs.pr_base.PathLemmas.{part_components, part_no_slash, part_relative}
+use Rattle.pt_args.proofs.pr_base.WalkLemmas.{walk-last}
 use Rattle.pt_args.specs.pt_canon.Canon.{canon_at, canon_result, ending_of}
 use Rattle.pt_args.specs.pt_canon.TextWalk.{SeenText, TextSurroundings, look_text, looking_texts, text_walk}
 use Rattle.pt_results.specs.Laws.{LinksLeadByTags}

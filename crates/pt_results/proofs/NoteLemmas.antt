@@ -1,8 +1,8 @@
 -- What a note changes.
 use Rattle.std.proofs.Common.{◌≡◌, ◌≢◌, ℕ, refl}
-use Rattle.pt_bind.specs.Tags.{TagTable, tag_of}
-use Rattle.pt_bind.specs.declared.slot.Slot.{Slot}
-use Rattle.pt_bind.proofs.TagLemmas.{tags_change}
+use Rattle.pt_args.specs.pt_bind.Tags.{TagTable, tag_of}
+use Rattle.pt_args.specs.pt_bind.declared.slot.Slot.{Slot}
+use Rattle.pt_args.proofs.pt_bind.TagLemmas.{tags_change}
 use Rattle.pt_args.specs.kr_calls.declared.request.Request.{Request}
 use Rattle.pt_args.specs.kr_calls.declared.request.Request.TheVariants as call
 use Rattle.std.specs.Prelude.{None}

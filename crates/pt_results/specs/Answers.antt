@@ -2,14 +2,14 @@
 -- directory other than `self`, as proc(5) has them.
 use Rattle.std.specs.Prelude.{ℕ, ◌+◌, nat_lt, false, List, [], ◌∷◌, length, take, pos, Option, Some, None, Result, Ok, Err, if◌then◌else◌}
 use Rattle.std.specs.Prelude.{min}
-use Rattle.pr_base.specs.Paths.{is_absolute}
-use Rattle.pr_base.specs.Texts.{Text}
-use Rattle.pr_base.specs.declared.errno.Errno.{Errno}
-use Rattle.pr_base.specs.declared.errno.Errno.TheVariants.{ENOENT, ERANGE}
-use Rattle.pr_base.specs.declared.path.WalkMode.TheVariants as mode
-use Rattle.pr_base.specs.declared.peeks.PeekKind.{PeekKind}
-use Rattle.pr_base.specs.declared.peeks.PeekKind.TheVariants as kind
-use Rattle.pt_bind.specs.Binding.{names_of}
+use Rattle.pt_args.specs.pr_base.Paths.{is_absolute}
+use Rattle.pt_args.specs.pr_base.Texts.{Text}
+use Rattle.pt_args.specs.pr_base.declared.errno.Errno.{Errno}
+use Rattle.pt_args.specs.pr_base.declared.errno.Errno.TheVariants.{ENOENT, ERANGE}
+use Rattle.pt_args.specs.pr_base.declared.path.WalkMode.TheVariants as mode
+use Rattle.pt_args.specs.pr_base.declared.peeks.PeekKind.{PeekKind}
+use Rattle.pt_args.specs.pr_base.declared.peeks.PeekKind.TheVariants as kind
+use Rattle.pt_args.specs.pt_bind.Binding.{names_of}
 use Rattle.pt_args.specs.pt_canon.Canon.{canon_of}
 use Rattle.pt_args.specs.pt_canon.TextWalk.{TextSurroundings}
 use Rattle.pt_args.specs.pt_canon.declared.canon.Canon.{Canon}

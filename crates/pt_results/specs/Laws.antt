@@ -1,12 +1,12 @@
 -- Laws of answers and notes.
 use Rattle.std.specs.Prelude.{◌≡◌, ◌≢◌, ℕ, negsuc, List, Some, None, Ok, Err}
-use Rattle.pr_base.specs.Paths.{IsPart, Name, text_of}
-use Rattle.pr_base.specs.Texts.{Text}
-use Rattle.pr_base.specs.WalkFrame.{Jumps, Landing}
-use Rattle.pr_base.specs.declared.errno.Errno.TheVariants.{ENOENT}
-use Rattle.pr_base.specs.declared.path.WalkMode.TheVariants as mode
-use Rattle.pt_bind.specs.Tags.{TagTable, tag_of}
-use Rattle.pt_bind.specs.declared.slot.Slot.{Slot}
+use Rattle.pt_args.specs.pr_base.Paths.{IsPart, Name, text_of}
+use Rattle.pt_args.specs.pr_base.Texts.{Text}
+use Rattle.pt_args.specs.pr_base.WalkFrame.{Jumps, Landing}
+use Rattle.pt_args.specs.pr_base.declared.errno.Errno.TheVariants.{ENOENT}
+use Rattle.pt_args.specs.pr_base.declared.path.WalkMode.TheVariants as mode
+use Rattle.pt_args.specs.pt_bind.Tags.{TagTable, tag_of}
+use Rattle.pt_args.specs.pt_bind.declared.slot.Slot.{Slot}
 use Rattle.pt_args.specs.pt_canon.Canon.{canon_of}
 use Rattle.pt_args.specs.pt_canon.TextWalk.{TextSurroundings, look_text}
 use Rattle.pt_args.specs.pt_canon.declared.canon.Canon.{Canon}

@@ -1,9 +1,9 @@
 -- What a tracer notes of the answer of a call: of what it made the index of the guest text that was opened, of a copy the
 -- tag of its original.
 use Rattle.std.specs.Prelude.{ℕ, ◌==◌, ℤ, pos, negsuc, Option, Some, None, if◌then◌else◌}
-use Rattle.pt_bind.specs.Tags.{TagTable, tag_of, with_tag}
-use Rattle.pt_bind.specs.declared.slot.Slot.{Slot}
-use Rattle.pt_bind.specs.declared.slot.Slot.TheVariants.{Cwd, Exe, Fd}
+use Rattle.pt_args.specs.pt_bind.Tags.{TagTable, tag_of, with_tag}
+use Rattle.pt_args.specs.pt_bind.declared.slot.Slot.{Slot}
+use Rattle.pt_args.specs.pt_bind.declared.slot.Slot.TheVariants.{Cwd, Exe, Fd}
 use Rattle.pt_args.specs.kr_calls.declared.request.Request.{Request}
 use Rattle.pt_args.specs.kr_calls.declared.request.Request.TheVariants as call
 use Rattle.pt_args.specs.Bases.{descriptor_number}

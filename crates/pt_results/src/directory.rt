@@ -4,10 +4,10 @@ ghost use Rattle.pt_args.specs.pt_canon.Canon.{texts_by};
 ghost use Rattle.pt_results.specs.Answers.{cwd_answer, text_answer};
 ghost use Rattle.pt_args.specs.pt_canon.Leaving.{OnlyPeeks};
 
-use pr_base::{Bytes, Errno, NoMemory, Peeks};
+use pt_args::below::pt_bind::Tags;
 use pt_args::below::pt_canon::Walker;
+use pt_args::below::{Bytes, Errno, NoMemory, Peeks};
 use pt_args::{Edit, Pokes, working_text};
-use pt_bind::Tags;
 use std::alloc::Global;
 
 /// The answer of getcwd(2) in guest terms: the guest text of the working directory with its zero, and how many bytes that are.

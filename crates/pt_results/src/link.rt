@@ -1,18 +1,18 @@
 //! The answer of readlinkat(2) for a link of the process directory.
 ghost use Rattle.std.specs.Prelude.{◌≡◌, IsTrue, IfOk};
-ghost use Rattle.pr_base.specs.Paths.{is_absolute};
-ghost use Rattle.pt_bind.specs.Binding.{IsWritten, names_of};
+ghost use Rattle.pt_args.specs.pr_base.Paths.{is_absolute};
+ghost use Rattle.pt_args.specs.pt_bind.Binding.{IsWritten, names_of};
 ghost use Rattle.pt_args.specs.pt_canon.Canon.{texts_by};
 ghost use Rattle.pt_results.specs.Answers.{jump_answer, lead_answer, link_answer, nowhere_answer, read_answer};
 ghost use Rattle.pt_args.specs.pt_canon.Leaving.{OnlyPeeks};
 ghost use Rattle.pt_args.specs.pt_canon.Remembering.{Agrees, WalksOn};
 
 use crate::numbers::count_of;
-use pr_base::{Bytes, Errno, NoMemory, PeekFault, PeekKind, Peeks, WalkMode, components};
 use pt_args::below::kr_calls::{Request, path_of};
+use pt_args::below::pt_bind::Tags;
 use pt_args::below::pt_canon::{Canon, WalkErr, Walker};
+use pt_args::below::{Bytes, Errno, NoMemory, PeekFault, PeekKind, Peeks, WalkMode, components};
 use pt_args::{Caller, Edit, Pokes, parted};
-use pt_bind::Tags;
 use std::alloc::Global;
 
 /// Where the bytes of a text are put, and how many at most.

@@ -1,6 +1,6 @@
 //! What an answer tells of the tags of a process.
 
-use pt_bind::Slot;
+use pt_args::below::pt_bind::Slot;
 
 /// What of a process's tags changes.
 #[derive(Clone, Copy)]

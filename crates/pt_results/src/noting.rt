@@ -1,13 +1,13 @@
 //! What is noted of the answers of a process's calls.
 ghost use Rattle.std.specs.Prelude.{◌≡◌, OnErr, OnOk};
-ghost use Rattle.pt_bind.specs.Tags.{tag_of, with_tag};
+ghost use Rattle.pt_args.specs.pt_bind.Tags.{tag_of, with_tag};
 ghost use Rattle.pt_results.specs.Notes.{copied, duplicated, noted, tags_after};
 
 use crate::note::Note;
 use crate::numbers::{descriptor_number, made_number};
-use pr_base::NoMemory;
+use pt_args::below::NoMemory;
 use pt_args::below::kr_calls::Request;
-use pt_bind::{Slot, Tags};
+use pt_args::below::pt_bind::{Slot, Tags};
 
 /// F_DUPFD of fcntl(2).
 const DUPFD: i32 = 0;

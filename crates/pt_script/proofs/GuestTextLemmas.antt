@@ -1,10 +1,10 @@
 -- Programs are found by guest texts.
 use Rattle.std.proofs.Common.{◌≡◌, ℕ, List, Option, Result, Ok, Err, refl, sym, ap, ◌∙◌}
 use Rattle.std.specs.Prelude.{take}
-use Rattle.pr_base.specs.Paths.{text_of}
-use Rattle.pr_base.specs.Texts.{Text}
-use Rattle.pr_base.specs.declared.errno.Errno.{Errno}
-use Rattle.pr_base.specs.declared.path.WalkMode.TheVariants.{Look}
+use Rattle.pt_args.specs.pr_base.Paths.{text_of}
+use Rattle.pt_args.specs.pr_base.Texts.{Text}
+use Rattle.pt_args.specs.pr_base.declared.errno.Errno.{Errno}
+use Rattle.pt_args.specs.pr_base.declared.path.WalkMode.TheVariants.{Look}
 use Rattle.pt_args.specs.pt_bind.Binding.{host_of, index_of, names_of}
 use Rattle.pt_args.specs.pt_canon.Laws.{AnswersAreOfTheirTexts}
 use Rattle.pt_args.specs.pt_canon.TextWalk.{TextSurroundings}

@@ -7,13 +7,13 @@ use Rattle.std.specs.List.{list_any}
 use Rattle.std.specs.Option.{unwrap_or}
 use Rattle.std.specs.Ordering.{nat_cmp}
 use Rattle.std.specs.Str.{bytes_eq}
-use Rattle.pr_base.specs.Peeks.{Peeked}
-use Rattle.pr_base.specs.WalkFrame.{walk_on}
-use Rattle.pr_base.specs.declared.errno.Errno.{Errno}
-use Rattle.pr_base.specs.declared.errno.Errno.TheVariants.{EACCES, E2BIG, EINVAL, ELOOP, ENOENT, ENOEXEC, ENOTDIR}
-use Rattle.pr_base.specs.declared.peeks.BaseKind.TheVariants as base
-use Rattle.pr_base.specs.declared.peeks.PeekKind.{PeekKind}
-use Rattle.pr_base.specs.declared.peeks.PeekKind.TheVariants as kind
+use Rattle.pt_args.specs.pr_base.Peeks.{Peeked}
+use Rattle.pt_args.specs.pr_base.WalkFrame.{walk_on}
+use Rattle.pt_args.specs.pr_base.declared.errno.Errno.{Errno}
+use Rattle.pt_args.specs.pr_base.declared.errno.Errno.TheVariants.{EACCES, E2BIG, EINVAL, ELOOP, ENOENT, ENOEXEC, ENOTDIR}
+use Rattle.pt_args.specs.pr_base.declared.peeks.BaseKind.TheVariants as base
+use Rattle.pt_args.specs.pr_base.declared.peeks.PeekKind.{PeekKind}
+use Rattle.pt_args.specs.pr_base.declared.peeks.PeekKind.TheVariants as kind
 use Rattle.pt_args.specs.pt_bind.Binding.{names_of}
 use Rattle.pt_args.specs.pt_bind.Tags.{tag_at, tag_of, untagged as unset}
 use Rattle.pt_args.specs.pt_bind.declared.slot.Slot.TheVariants.{Cwd}

@@ -1,7 +1,7 @@
 -- What execve(2) runs in the end, in guest terms: the scripts of a path, over finding programs as a tracer does.
 use Rattle.std.specs.Prelude.{ℕ, List, Option, Some, None, Result, Ok, Err, if◌then◌else◌}
-use Rattle.pr_base.specs.declared.errno.Errno.{Errno}
-use Rattle.pr_base.specs.declared.errno.Errno.TheVariants.{E2BIG, ENOEXEC}
+use Rattle.pt_args.specs.pr_base.declared.errno.Errno.{Errno}
+use Rattle.pt_args.specs.pr_base.declared.errno.Errno.TheVariants.{E2BIG, ENOEXEC}
 use Rattle.pt_args.specs.pt_canon.TextWalk.{TextSurroundings}
 use Rattle.pt_args.specs.kr_calls.Expansion.{expanded, is_too_big, most_scripts, new_args}
 use Rattle.pt_args.specs.kr_calls.Expansion.{Expanded as Ended}

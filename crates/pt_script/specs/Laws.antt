@@ -1,9 +1,9 @@
 -- Laws of scripts in guest terms.
 use Rattle.std.specs.Prelude.{◌≡◌, ℕ, suc, ◌<◌, ◌≤◌, true, false, List, ◌∷◌, ◌++◌, drop, Option, Ok, Err}
-use Rattle.pr_base.specs.Paths.{text_of}
-use Rattle.pr_base.specs.Texts.{Text}
-use Rattle.pr_base.specs.declared.errno.Errno.{Errno}
-use Rattle.pr_base.specs.declared.errno.Errno.TheVariants.{ELOOP}
+use Rattle.pt_args.specs.pr_base.Paths.{text_of}
+use Rattle.pt_args.specs.pr_base.Texts.{Text}
+use Rattle.pt_args.specs.pr_base.declared.errno.Errno.{Errno}
+use Rattle.pt_args.specs.pr_base.declared.errno.Errno.TheVariants.{ELOOP}
 use Rattle.pt_args.specs.pt_bind.Binding.{host_of, index_of}
 use Rattle.pt_args.specs.pt_canon.TextWalk.{TextSurroundings}
 use Rattle.pt_args.specs.kr_calls.Expansion.{is_script}

@@ -1,10 +1,10 @@
 -- Programs as a tracer finds them: their guest texts by its walk, and their first bytes by peeks at the host texts of these.
 use Rattle.std.specs.Prelude.{ℕ, List, [], ◌∷◌, take, Option, Some, None, Result, Ok, Err, if◌then◌else◌}
-use Rattle.pr_base.specs.Paths.{slash, is_absolute}
-use Rattle.pr_base.specs.Peeks.{Peeked}
-use Rattle.pr_base.specs.declared.errno.Errno.{Errno}
-use Rattle.pr_base.specs.declared.errno.Errno.TheVariants.{ENOENT}
-use Rattle.pr_base.specs.declared.path.WalkMode.TheVariants.{Look}
+use Rattle.pt_args.specs.pr_base.Paths.{slash, is_absolute}
+use Rattle.pt_args.specs.pr_base.Peeks.{Peeked}
+use Rattle.pt_args.specs.pr_base.declared.errno.Errno.{Errno}
+use Rattle.pt_args.specs.pr_base.declared.errno.Errno.TheVariants.{ENOENT}
+use Rattle.pt_args.specs.pr_base.declared.path.WalkMode.TheVariants.{Look}
 use Rattle.pt_args.specs.pt_bind.Binding.{names_of}
 use Rattle.pt_args.specs.pt_canon.Canon.{canon_of}
 use Rattle.pt_args.specs.pt_canon.TextWalk.{TextSurroundings}

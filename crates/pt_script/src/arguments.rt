@@ -3,8 +3,7 @@ ghost use Rattle.std.specs.Prelude.{◌≡◌, ◌+◌, ◌≤◌, ◌<◌, ◌�
 ghost use Rattle.std.specs.Option.{SomeIff};
 ghost use Rattle.pt_args.specs.kr_calls.Expansion.{bytes_with_ends, is_too_big, new_args};
 
-use pr_base::limits::{MOST_BYTES, MOST_TEXTS};
-use pr_base::{Bytes, NoMemory, Texts};
+use pt_args::below::{Bytes, MOST_BYTES, MOST_TEXTS, NoMemory, Texts};
 use std::alloc::Global;
 
 /// The arguments of an interpreter: its own path, the argument on the line if there is one, the script's path, and the

@@ -1,7 +1,7 @@
 //! Files that are to be run.
 
 use crate::program::Program;
-use pr_base::{Bytes, Texts};
+use pt_args::below::{Bytes, Texts};
 
 /// A program, the path by which it was found, and its arguments.
 #[derive(Drop)]

@@ -13,10 +13,10 @@ use crate::arguments::{is_too_big, new_args};
 use crate::command::Command;
 use crate::finder::Finder;
 use crate::program::is_script;
-use pr_base::{Bytes, Errno, Peeks, Texts};
 use pt_args::below::kr_calls::script_line;
 use pt_args::below::pt_bind::Tags;
 use pt_args::below::pt_canon::{WalkErr, Walker};
+use pt_args::below::{Bytes, Errno, Peeks, Texts};
 use pt_args::working_text;
 use std::alloc::Global;
 

@@ -22,6 +22,7 @@
 #![tactic(auto)]
 
 pub mod arguments;
+pub mod below;
 mod command;
 pub mod expansion;
 pub mod finder;

@@ -1,7 +1,7 @@
 //! Programs as a tracer finds them.
 ghost use Rattle.std.specs.Prelude.{◌≡◌, ◌≤◌, take, length, IsTrue, IfOk, IfSome};
 ghost use Rattle.std.specs.Option.{option_copied};
-ghost use Rattle.pr_base.specs.Paths.{is_absolute};
+ghost use Rattle.pt_args.specs.pr_base.Paths.{is_absolute};
 ghost use Rattle.pt_args.specs.pt_bind.Binding.{IsWritten, names_of};
 ghost use Rattle.pt_args.specs.pt_canon.Canon.{IsAnswer, canon_of, texts_by};
 ghost use Rattle.pt_args.specs.kr_calls.Expansion.{is_script};
@@ -11,9 +11,9 @@ ghost use Rattle.pt_args.specs.pt_canon.Leaving.{OnlyPeeks};
 ghost use Rattle.pt_args.specs.pt_canon.Remembering.{Agrees, WalksOn};
 
 use crate::finder::Finder;
-use pr_base::{Bytes, Errno, Peeks, WalkMode, components};
 use pt_args::below::pt_canon::laws::answers_are_of_their_texts;
 use pt_args::below::pt_canon::{Canon, WalkErr, Walker};
+use pt_args::below::{Bytes, Errno, Peeks, WalkMode, components};
 use std::alloc::Global;
 
 /// How many bytes of a file tell a script's line.

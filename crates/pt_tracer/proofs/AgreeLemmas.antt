@@ -1,7 +1,7 @@
 -- What a walker remembers agrees with what is told at a stop.
 use Rattle.std.proofs.Common.{◌≡◌, ◌∙◌, ℕ, [], refl, sym, subst}
-use Rattle.pr_base.specs.Peeks.{Peeked}
-use Rattle.pr_base.specs.declared.path.WalkMode.TheVariants.{LookLink}
+use Rattle.law_steady.specs.pr_base.Peeks.{Peeked}
+use Rattle.law_steady.specs.pr_base.declared.path.WalkMode.TheVariants.{LookLink}
 use Rattle.law_steady.specs.kr_model.Peeks.{peeked_of}
 use Rattle.law_steady.specs.kr_model.State.{Image, State}
 use Rattle.law_steady.specs.kr_tree.Lawful.{IsSound}
@@ -9,8 +9,8 @@ use Rattle.law_steady.specs.kr_tree.Tree.{Tree}
 use Rattle.law_steady.specs.Steady.{HaveOneShape}
 use Rattle.law_steady.proofs.ExactLemmas.{same_shape}
 use Rattle.law_steady.proofs.SteadyLemmas.{steady_peeks_last, steady_walks_last}
-use Rattle.pt_canon.specs.Remembering.{Agrees, Walking, WalksOn}
-use Rattle.pt_canon.proofs.RememberLemmas.{agreement_lasts, nothing_agrees}
+use Rattle.law_steady.specs.pt_canon.Remembering.{Agrees, Walking, WalksOn}
+use Rattle.law_steady.proofs.pt_canon.RememberLemmas.{agreement_lasts, nothing_agrees}
 use Rattle.pt_faker.specs.kr_inode.declared.user.User.{User}
 use Rattle.pt_faker.specs.Stopping.{IsEdited, Stopped}
 use Rattle.pt_tracer.specs.Agreeing.{AgreesWith, WalksAt}

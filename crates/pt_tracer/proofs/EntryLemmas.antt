@@ -2,7 +2,7 @@
 use Rattle.std.specs.FinMap as map
 use Rattle.std.proofs.Common.{◌≡◌, ◌∙◌, ℕ, ℤ, Option, Some, None, refl, sym, ap, subst}
 use Rattle.std.specs.Ordering.{nat_cmp}
-use Rattle.rv_mem.specs.Actions.{carried_out}
+use Rattle.pt_results.specs.rv_mem.Actions.{carried_out}
 use Rattle.pt_results.specs.kr_calls.declared.request.Request.{Request}
 use Rattle.pt_faker.specs.Stopping.{memory_at, Stopped, with_memory}
 use Rattle.pt_faker.specs.pt_ident.Identity.{Answered, Effect, Identity, effect, on_memory}

@@ -1,11 +1,11 @@
 -- A walker that processes pause.
 use Rattle.std.proofs.Common.{◌≡◌, ◌≢◌, ◌∙◌, ◌+◌, ◌-◌, ℕ, Bool, true, false, cond, List, [], ◌∷◌, length, arith, sym, ap, subst}
 use Rattle.std.specs.Ordering.{eq_by_cmp, nat_cmp}
-use Rattle.pr_base.proofs.MapLemmas.{ties-other}
+use Rattle.law_steady.proofs.pr_base.MapLemmas.{ties-other}
 use Rattle.pt_faker.specs.Stopping.{Stopped}
 use Rattle.pt_faker.specs.kr_stops.Remembering.{FreesCaller, KeepsAllFree, KeepsOthersFree, StillAgrees, can_alter_shape}
 use Rattle.pt_faker.specs.kr_stops.Stopped.{image_at}
-use Rattle.pt_canon.specs.Remembering.{Walking}
+use Rattle.law_steady.specs.pt_canon.Remembering.{Walking}
 use Rattle.pt_tracer.specs.Agreeing.{AgreesWith}
 use Rattle.pt_tracer.specs.AgreeingLaws.{paused-agrees}
 use Rattle.pt_tracer.proofs.AgreeLemmas.{empty-agrees}

@@ -1,11 +1,11 @@
 -- Plans of calls that run programs.
 use Rattle.std.proofs.Common.{◌≡◌, ◌≢◌, ◌∙◌, ℕ, Bool, true, false, List, Option, Some, None, Result, Ok, Err, refl, if◌then◌else◌, get_or, sym, ap, subst}
 use Rattle.std.specs.Prelude.{IfOk}
-use Rattle.pr_base.specs.MountText.{MountText}
-use Rattle.pr_base.specs.declared.errno.Errno.{Errno}
-use Rattle.rv_mem.specs.Actions.{Action, carried_out}
-use Rattle.rv_mem.specs.declared.regs.Regs.{Regs}
-use Rattle.pt_bind.specs.Tags.{TagTable}
+use Rattle.law_steady.specs.pr_base.MountText.{MountText}
+use Rattle.law_steady.specs.pr_base.declared.errno.Errno.{Errno}
+use Rattle.pt_results.specs.rv_mem.Actions.{Action, carried_out}
+use Rattle.pt_results.specs.rv_mem.declared.regs.Regs.{Regs}
+use Rattle.law_steady.specs.pt_bind.Tags.{TagTable}
 use Rattle.pt_results.specs.pt_canon.Leaving.{OnlyPeeks}
 use Rattle.pt_results.specs.pt_canon.TextWalk.{TextSurroundings}
 use Rattle.pt_results.specs.kr_calls.PathTable.{PathUse, path_at}

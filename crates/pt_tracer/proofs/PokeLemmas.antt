@@ -1,9 +1,9 @@
 -- Bytes that are written one after the other.
 use Rattle.std.proofs.Common.{◌≡◌, ◌∙◌, ◌&&◌, ℕ, ℤ, true, List, [], ◌∷◌, length, Some, if◌then◌else◌, refl, sym, ap}
-use Rattle.pr_base.specs.declared.errno.Errno.TheVariants.{EFAULT}
-use Rattle.rv_mem.specs.Memory.{Memory, with_pages}
-use Rattle.rv_mem.specs.Pages.{allows_all, written}
-use Rattle.rv_mem.specs.declared.rights.Use.TheVariants.{Write}
+use Rattle.law_steady.specs.pr_base.declared.errno.Errno.TheVariants.{EFAULT}
+use Rattle.pt_results.specs.rv_mem.Memory.{Memory, with_pages}
+use Rattle.pt_results.specs.rv_mem.Pages.{allows_all, written}
+use Rattle.pt_results.specs.rv_mem.declared.rights.Use.TheVariants.{Write}
 use Rattle.pt_faker.specs.Stopping.{after_poke, IsThere, memory_at, Stopped}
 use Rattle.pt_results.specs.pt_args.declared.edit.Edit.{Edit}
 use Rattle.pt_results.specs.pt_args.declared.edit.Edit.TheVariants.{Emulate}

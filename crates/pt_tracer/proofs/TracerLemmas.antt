@@ -2,13 +2,13 @@
 use Rattle.std.specs.FinMap as map
 use Rattle.std.proofs.Common.{◌≡◌, ◌≢◌, ◌∙◌, ℕ, Bool, true, false, Option, Some, None, Result, Ok, Err, if◌then◌else◌, refl, sym, ap}
 use Rattle.std.specs.Option.{option_map}
-use Rattle.pr_base.proofs.MapLemmas.{get-insert_other, get-remove_other, get-remove_same, remove-none}
-use Rattle.pr_base.specs.declared.errno.Errno.{Errno}
+use Rattle.law_steady.proofs.pr_base.MapLemmas.{get-insert_other, get-remove_other, get-remove_same, remove-none}
+use Rattle.law_steady.specs.pr_base.declared.errno.Errno.{Errno}
 use Rattle.pt_results.specs.kr_calls.declared.request.Request.{Request}
 use Rattle.pt_faker.specs.Stopping.{after_request, decoded_at, register_at, Stopped}
-use Rattle.pt_bind.proofs.TagLemmas.{tags_change}
-use Rattle.pt_bind.specs.Tags.{with_tag}
-use Rattle.pt_bind.specs.declared.slot.Slot.TheVariants.{Exe}
+use Rattle.law_steady.proofs.pt_bind.TagLemmas.{tags_change}
+use Rattle.law_steady.specs.pt_bind.Tags.{with_tag}
+use Rattle.law_steady.specs.pt_bind.declared.slot.Slot.TheVariants.{Exe}
 use Rattle.pt_faker.specs.pt_ident.Identity.{Effect, Identity, effect}
 use Rattle.pt_faker.specs.pt_ident.IdentityTable.{IdentityTable, after_birth, after_end, identity_at, starts_as_root, with_identity}
 use Rattle.pt_faker.specs.Faking.{due_of}

@@ -6,7 +6,7 @@ use Rattle.law_steady.specs.kr_model.State.{Image, State}
 use Rattle.law_steady.specs.kr_tree.Tree.{Tree}
 use Rattle.pt_faker.specs.kr_inode.declared.user.User.{User}
 use Rattle.pt_faker.specs.Stopping.{Stopped}
-use Rattle.pt_canon.specs.Remembering.{Agrees, Walking}
+use Rattle.law_steady.specs.pt_canon.Remembering.{Agrees, Walking}
 
 -- with what a kernel tells in every state of that user whose tree has that shape, whoever asks
 pub record AgreesWith (w : Walking) (tree : Tree) (user : User) : Type 0 where

@@ -3,7 +3,7 @@ use Rattle.std.proofs.Common.{◌≢◌, ◌∙◌}
 use Rattle.law_steady.specs.kr_model.Judged.{HasShape}
 use Rattle.law_steady.specs.kr_tree.Tree.{Tree}
 use Rattle.pt_faker.specs.kr_inode.declared.user.User.{User}
-use Rattle.pt_canon.specs.Remembering.{Walking}
+use Rattle.law_steady.specs.pt_canon.Remembering.{Walking}
 use Rattle.pt_tracer.specs.Agreeing.{AgreesWith}
 
 one-shape : (t u v : Tree) → HasShape t u → HasShape u v → HasShape t v

@@ -1,10 +1,10 @@
 -- What a tracer keeps: what it traces, of which alone the definition of its stops speaks, and a walker, which may remember.
 use Rattle.std.specs.Prelude.{ℕ, [], Option}
 use Rattle.law_steady.specs.kr_tree.Tree.{Tree}
-use Rattle.pt_bind.specs.Binding.{rows_of}
-use Rattle.pt_bind.specs.Tags.{TagTable}
+use Rattle.law_steady.specs.pt_bind.Binding.{rows_of}
+use Rattle.law_steady.specs.pt_bind.Tags.{TagTable}
 use Rattle.pt_faker.specs.kr_inode.declared.user.User.{User}
-use Rattle.pt_canon.specs.Remembering.{Walking}
+use Rattle.law_steady.specs.pt_canon.Remembering.{Walking}
 use Rattle.pt_tracer.specs.Agreeing.{AgreesWith}
 use Rattle.pt_tracer.specs.Pausing.{IsPausedFor, Pausing}
 use Rattle.pt_tracer.specs.Watched.{Tracing, starting_tracing}

@@ -2,7 +2,7 @@
 use Rattle.std.specs.Prelude.{◌≡◌, ◌≢◌, ℕ, Bool, true, List, length}
 use Rattle.std.specs.List.{list_any}
 use Rattle.std.specs.Ordering.{eq_by_cmp, nat_cmp}
-use Rattle.pt_canon.specs.Remembering.{Walking}
+use Rattle.law_steady.specs.pt_canon.Remembering.{Walking}
 
 -- a walker, and the processes that pause it, each of them once
 pub record Pausing : Type 0 where

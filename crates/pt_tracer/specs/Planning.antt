@@ -1,13 +1,13 @@
 -- What a tracer makes of a call that could be read, before anything is done to the process.
 use Rattle.std.specs.Prelude.{ℕ, ◌-◌, ◌==◌, ◌&&◌, not, nat_lt, bytes_eq, Bool, true, false, List, [], ◌∷◌, length, Option, Some, None, Result, Ok, Err, if◌then◌else◌}
 use Rattle.std.specs.Option.{unwrap_or}
-use Rattle.pr_base.specs.MountText.{MountText}
-use Rattle.pr_base.specs.Paths.{slash}
-use Rattle.pr_base.specs.declared.errno.Errno.{Errno}
-use Rattle.rv_mem.specs.Actions.{carried_out}
-use Rattle.rv_mem.specs.Pages.{allows_all}
-use Rattle.rv_mem.specs.declared.rights.Use.TheVariants.{Read, Write}
-use Rattle.pt_bind.specs.Tags.{TagTable}
+use Rattle.law_steady.specs.pr_base.MountText.{MountText}
+use Rattle.law_steady.specs.pr_base.Paths.{slash}
+use Rattle.law_steady.specs.pr_base.declared.errno.Errno.{Errno}
+use Rattle.pt_results.specs.rv_mem.Actions.{carried_out}
+use Rattle.pt_results.specs.rv_mem.Pages.{allows_all}
+use Rattle.pt_results.specs.rv_mem.declared.rights.Use.TheVariants.{Read, Write}
+use Rattle.law_steady.specs.pt_bind.Tags.{TagTable}
 use Rattle.pt_results.specs.pt_canon.TextWalk.{TextSurroundings}
 use Rattle.pt_results.specs.kr_calls.PathTable.{PathUse, path_at}
 use Rattle.pt_results.specs.kr_calls.declared.request.Request.{Request}

@@ -1,7 +1,7 @@
 -- Bytes that a tracer writes into the memory of a stopped process: all of them, or none where one may not be written.
 use Rattle.std.specs.Prelude.{ℕ, ◌&&◌, Bool, true, List, [], ◌∷◌, length}
-use Rattle.rv_mem.specs.Pages.{allows_all}
-use Rattle.rv_mem.specs.declared.rights.Use.TheVariants.{Write}
+use Rattle.pt_results.specs.rv_mem.Pages.{allows_all}
+use Rattle.pt_results.specs.rv_mem.declared.rights.Use.TheVariants.{Write}
 use Rattle.pt_faker.specs.Stopping.{after_poke, memory_at, Stopped}
 
 abbrev pub may_poke : List (ℕ × List ℕ) → Stopped → Bool

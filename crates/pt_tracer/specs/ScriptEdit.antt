@@ -2,7 +2,7 @@
 -- arguments, and a list of addresses, in which the texts that are kept have their old ones. All of it is put on the shelf.
 use Rattle.std.specs.Prelude.{ℕ, ◌+◌, ◌-◌, ◌*◌, nat_lt, List, [], ◌∷◌, ◌++◌, length, take, if◌then◌else◌}
 use Rattle.std.specs.Int.{to_le_bytes, w64}
-use Rattle.pr_base.specs.declared.errno.Errno.TheVariants.{E2BIG, ENAMETOOLONG}
+use Rattle.law_steady.specs.pr_base.declared.errno.Errno.TheVariants.{E2BIG, ENAMETOOLONG}
 use Rattle.pt_results.specs.pt_args.Edits.{longest_path}
 use Rattle.pt_results.specs.pt_args.Shelving.{address_below, shelf_size, with_item, with_zero}
 use Rattle.pt_results.specs.pt_args.declared.edit.Edit.{Edit}

@@ -3,8 +3,8 @@ use Rattle.std.specs.FinMap as map
 use Rattle.std.specs.Prelude.{◌≡◌, ◌≢◌, ℕ, Option, None}
 use Rattle.std.specs.Option.{option_map}
 use Rattle.pt_faker.specs.Stopping.{Stopped}
-use Rattle.pt_bind.specs.Tags.{tag_of}
-use Rattle.pt_bind.specs.declared.slot.Slot.{Slot}
+use Rattle.law_steady.specs.pt_bind.Tags.{tag_of}
+use Rattle.law_steady.specs.pt_bind.declared.slot.Slot.{Slot}
 use Rattle.pt_faker.specs.pt_ident.Identity.{Identity, starting}
 use Rattle.pt_faker.specs.pt_ident.IdentityTable.{IdentityTable, identity_at}
 use Rattle.pt_tracer.specs.Watched.{Tracing, born, entered, exited, gone, without_pending}

@@ -6,16 +6,16 @@ use Rattle.std.specs.Prelude.{ℕ, ◌&&◌, Bool, true, false, List, ℤ, Optio
 use Rattle.std.specs.Int.{cast_signed, w64}
 use Rattle.std.specs.Option.{option_map}
 use Rattle.std.specs.Ordering.{nat_cmp}
-use Rattle.pr_base.specs.MountText.{MountText}
-use Rattle.pr_base.specs.declared.errno.Errno.{Errno}
-use Rattle.pr_base.specs.declared.errno.Errno.TheVariants.{EFAULT}
-use Rattle.rv_mem.specs.Actions.{carried_out}
+use Rattle.law_steady.specs.pr_base.MountText.{MountText}
+use Rattle.law_steady.specs.pr_base.declared.errno.Errno.{Errno}
+use Rattle.law_steady.specs.pr_base.declared.errno.Errno.TheVariants.{EFAULT}
+use Rattle.pt_results.specs.rv_mem.Actions.{carried_out}
 use Rattle.pt_faker.specs.kr_inode.declared.user.User.{User}
 use Rattle.pt_results.specs.kr_calls.declared.request.Request.{Request}
 use Rattle.pt_results.specs.kr_calls.declared.request.Request.TheVariants as call
 use Rattle.pt_faker.specs.Stopping.{after_request, decoded_at, memory_at, register_at, Stopped, Watcher, with_memory, with_register}
-use Rattle.pt_bind.specs.Tags.{TagTable, dropped, forked, with_tag}
-use Rattle.pt_bind.specs.declared.slot.Slot.TheVariants.{Exe}
+use Rattle.law_steady.specs.pt_bind.Tags.{TagTable, dropped, forked, with_tag}
+use Rattle.law_steady.specs.pt_bind.declared.slot.Slot.TheVariants.{Exe}
 use Rattle.pt_faker.specs.pt_ident.Identity.{Effect, after_exec, effect, on_memory, refusal}
 use Rattle.pt_faker.specs.pt_ident.IdentityTable.{IdentityTable, after_birth, after_end, identity_at, starts_as_root, with_identity}
 use Rattle.pt_results.specs.pt_args.declared.edit.Edit.{Edit}

@@ -3,8 +3,7 @@ ghost use Rattle.std.specs.Prelude.{◌≡◌, IfOk};
 ghost use Rattle.pt_faker.specs.Stopping.{OnlyEdits};
 ghost use Rattle.pt_tracer.specs.Answering.{AnswersBy, AnswersFaked};
 
-use pr_base::NoMemory;
-use pt_faker::below::Identities;
+use pt_faker::below::{Identities, NoMemory};
 use pt_faker::{Tracee, answer_call};
 use pt_results::below::Request;
 use std::alloc::Global;

@@ -5,8 +5,8 @@ ghost use Rattle.pt_tracer.specs.Watched.{applied, refused};
 
 use crate::pokes::{may_poke, poke_all};
 use crate::registers::set_all;
-use pr_base::{Errno, NoMemory};
 use pt_faker::Tracee;
+use pt_faker::below::{Errno, NoMemory};
 use pt_faker::memory::refused as number_of;
 use pt_faker::registers::take_number;
 use pt_results::below::Edit;

@@ -1,6 +1,6 @@
 //! A walker that remembers nothing as long as a process stands at a call that can alter the tree.
 ghost use Rattle.std.specs.Prelude.{◌≡◌, [], IfOk, OnOk, false};
-ghost use Rattle.pt_bind.specs.Binding.{rows_of};
+ghost use Rattle.law_steady.specs.pt_bind.Binding.{rows_of};
 ghost use Rattle.pt_faker.specs.Stopping.{OnlyEdits};
 ghost use Rattle.pt_faker.specs.kr_stops.Remembering.{AgreesAt, FreesCaller, KeepsAllFree, KeepsOthersFree, StillAgrees};
 ghost use Rattle.pt_tracer.specs.Agreeing.{AgreesWith, WalksAt};
@@ -10,9 +10,9 @@ ghost use Rattle.pt_tracer.specs.Planning.{planned};
 use crate::altering::can_alter_shape;
 use crate::plan::Plan;
 use crate::planning::Planner;
-use pr_base::NoMemory;
-use pt_canon::Walker;
 use pt_faker::Tracee;
+use pt_faker::below::NoMemory;
+use pt_results::below::Walker;
 use std::alloc::Global;
 use std::collections::BTreeSet;
 use std::marker::Model;

@@ -4,7 +4,7 @@ ghost use Rattle.std.specs.FinMap as map;
 
 use crate::plan::Led;
 use crate::registers::Arguments;
-use pr_base::NoMemory;
+use pt_faker::below::NoMemory;
 use pt_results::below::Request;
 use std::alloc::Global;
 use std::collections::BTreeMap;

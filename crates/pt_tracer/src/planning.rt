@@ -1,6 +1,6 @@
 //! What a tracer makes of a call that could be read.
 ghost use Rattle.std.specs.Prelude.{◌≡◌, ◌≤◌, IsTrue, IfOk, length};
-ghost use Rattle.pt_bind.specs.Binding.{rows_of};
+ghost use Rattle.law_steady.specs.pt_bind.Binding.{rows_of};
 ghost use Rattle.pt_results.specs.pt_canon.Canon.{IsAnswer};
 ghost use Rattle.pt_results.specs.pt_canon.Leaving.{OnlyPeeks};
 ghost use Rattle.pt_script.specs.Expanding.{expanded_at};
@@ -12,18 +12,15 @@ ghost use Rattle.pt_tracer.specs.Planning.{answered, cancelled, execve_plan, exp
 
 use crate::plan::{Led, NOWHERE, Plan};
 use crate::script::script_edit;
-use pr_base::limits::SHELF;
-use pr_base::{Errno, NoMemory};
-use pt_bind::Tags;
+use pt_faker::below::{Errno, NoMemory, SHELF, Use};
 use pt_faker::registers::STACK;
 use pt_faker::{Handed, Tracee, addresses_behind, read_lists};
 use pt_results::below::{
-    CallFault, Edit, Reached, Request, Rewritten, WalkErr, Walker, edits_keep_to_paths, path_of,
-    rewrite_along,
+    CallFault, Edit, Reached, Request, Rewritten, Tags, WalkErr, Walker, edits_keep_to_paths,
+    path_of, rewrite_along,
 };
 use pt_results::{cwd_answer, link_answer};
 use pt_script::{Expanded, expand};
-use rv_mem::Use;
 use std::alloc::Global;
 
 /// Whether each of the 65,536 bytes below the stack pointer may be read and written.

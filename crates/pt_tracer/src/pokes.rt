@@ -1,13 +1,12 @@
 //! Bytes that are written into the memory of a stopped process.
 ghost use Rattle.std.specs.Prelude.{◌≡◌, IsTrue, OnOk, length};
-ghost use Rattle.rv_mem.specs.Pages.{allows_all};
+ghost use Rattle.pt_results.specs.rv_mem.Pages.{allows_all};
 ghost use Rattle.pt_faker.specs.Stopping.{after_poke, memory_at, OnlyEdits};
 ghost use Rattle.pt_tracer.specs.Poking.{may_poke, poked};
 
-use pr_base::{Bytes, NoMemory};
 use pt_faker::Tracee;
+use pt_faker::below::{Bytes, NoMemory, Use};
 use pt_faker::memory::write;
-use rv_mem::Use;
 
 /// Whether all of the bytes may be written.
 pub(crate) fn may_poke<T: Tracee>(t: &T, pokes: &[(u64, Bytes)]) -> bool

@@ -3,8 +3,7 @@ ghost use Rattle.std.specs.Prelude.{◌≡◌, ◌-◌, ◌≤◌, ◌++◌, nat
 ghost use Rattle.std.specs.Option.{SomeIff};
 ghost use Rattle.pt_tracer.specs.ScriptEdit.{addresses_of, put_texts, script_edit, script_room, shelved_script, texts_room, with_texts};
 
-use pr_base::limits::{PATH_MAX, SHELF};
-use pr_base::{Bytes, Errno, NoMemory, Texts};
+use pt_faker::below::{Bytes, Errno, NoMemory, PATH_MAX, SHELF, Texts};
 use pt_results::below::{Edit, Shelf, Swaps};
 use std::alloc::Global;
 

@@ -3,22 +3,20 @@ ghost use Rattle.std.specs.Prelude.{◌≡◌, OnOk, Some};
 ghost use Rattle.pt_faker.specs.Stopping.{register_at, OnlyEdits};
 ghost use Rattle.pt_faker.specs.Faking.{due_of, remembered_of};
 ghost use Rattle.pt_faker.specs.pt_ident.IdentityTable.{starts_as_root};
-ghost use Rattle.pt_bind.specs.Tags.{with_tag};
-ghost use Rattle.pt_bind.specs.declared.slot.Slot.TheVariants.{Exe};
+ghost use Rattle.law_steady.specs.pt_bind.Tags.{with_tag};
+ghost use Rattle.law_steady.specs.pt_bind.declared.slot.Slot.TheVariants.{Exe};
 ghost use Rattle.pt_results.specs.Notes.{noted, tags_after};
 ghost use Rattle.pt_tracer.specs.Answering.{BeginsAs, BeginsBy};
 ghost use Rattle.pt_tracer.specs.Watched.{answer_at, has_begun, is_execve, remembered_in, returned, shown_due, shown_to};
 
 use crate::pending::Pending;
 use crate::registers::{A0, set};
-use pr_base::NoMemory;
-use pt_bind::Tags;
-use pt_faker::below::{Identities, User};
+use pt_faker::below::{Identities, NoMemory, User};
 use pt_faker::memory::show_owner;
 use pt_faker::registers::{STACK, forgive, has_answered_zero};
 use pt_faker::remembering::remember;
 use pt_faker::{Due, Tracee, due_of, show_identity};
-use pt_results::below::Request;
+use pt_results::below::{Request, Tags};
 use pt_results::note_result;
 
 /// Whether a new program has begun in place of the caller's.

@@ -14,13 +14,10 @@ use crate::plan::{NOWHERE, Plan};
 use crate::planning::Planner;
 use crate::registers::Arguments;
 use crate::settling::{begin, give_back, has_begun};
-use pr_base::NoMemory;
-use pt_bind::Tags;
-use pt_canon::Walker;
-use pt_faker::below::{Identities, User};
+use pt_faker::below::{Identities, NoMemory, User};
 use pt_faker::registers::take_number;
 use pt_faker::{Graphed, Stops, Tracee};
-use pt_results::below::{CallFault, Request};
+use pt_results::below::{CallFault, Request, Tags, Walker};
 use std::alloc::Global;
 use std::marker::Model;
 
@@ -40,8 +37,8 @@ impl Model for Tracer {
     ghost use Rattle.std.specs.Coded.{Coded, codes, coded_ℕ};
     ghost use Rattle.std.specs.FinMap as map;
     ghost use Rattle.std.specs.Ordering.{nat_cmp};
-    ghost use Rattle.pt_bind.specs.Binding.{rows_of};
-    ghost use Rattle.pt_bind.specs.Tags.{tag_table_code};
+    ghost use Rattle.law_steady.specs.pt_bind.Binding.{rows_of};
+    ghost use Rattle.law_steady.specs.pt_bind.Tags.{tag_table_code};
     ghost use Rattle.pt_faker.specs.pt_ident.IdentityTable.{table_code};
     ghost use Rattle.pt_tracer.specs.Keeping.{Keeping};
     ghost use Rattle.pt_tracer.specs.declared.pending.Pending.{Pending};

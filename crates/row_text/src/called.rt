@@ -2,7 +2,7 @@
 ghost use Rattle.std.specs.Prelude.{◌<◌, ◌^◌, length};
 
 use crate::scenes::Scene;
-use pr_base::{Bytes, NoMemory};
+use guests::below::{Bytes, NoMemory};
 use std::alloc::Global;
 
 /// How many words a call may have.

@@ -5,7 +5,7 @@ use crate::keys::Key;
 use crate::lines::Line;
 use crate::parts::{Block, Kind};
 use crate::text::bytes;
-use pr_base::{Bytes, NoMemory};
+use guests::below::{Bytes, NoMemory};
 use std::alloc::Global;
 
 /// A key and its value.

@@ -3,7 +3,7 @@
 use crate::called::{Machine, Told};
 use crate::files::left;
 use crate::wants::{Calm, Wanted};
-use pr_base::{Bytes, NoMemory};
+use guests::below::{Bytes, NoMemory};
 use std::alloc::Global;
 
 /// Adds what differs between two texts.

@@ -1,7 +1,7 @@
 //! Why rows aren't run to their end.
 
 use crate::faults::Fault;
-use pr_base::NoMemory;
+use guests::below::NoMemory;
 use std::alloc::{AllocError, AllocFailed};
 use std::fmt::{self, Display, Formatter, Write};
 

@@ -1,6 +1,6 @@
 //! Why rows can't be read.
 
-use pr_base::NoMemory;
+use guests::below::NoMemory;
 use std::alloc::{AllocError, AllocFailed};
 use std::fmt::{self, Display, Formatter, Write};
 

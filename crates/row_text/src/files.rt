@@ -4,8 +4,8 @@ use crate::faults::{Fault, Why};
 use crate::lines::Line;
 use crate::parts::{Block, Kind};
 use crate::text::{bytes, from_hex, text};
+use guests::below::{Bytes, NoMemory};
 use guests::{GuestFault, HELLO, coded};
-use pr_base::{Bytes, NoMemory};
 use std::alloc::Global;
 
 /// The listing of that name.

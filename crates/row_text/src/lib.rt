@@ -36,6 +36,7 @@
 //! and the byte hh. In lines of listings a last field `HELLO` is the hello file in hex digits.
 #![tactic(auto)]
 
+pub mod below;
 mod called;
 mod defaults;
 mod differing;

@@ -7,7 +7,7 @@ use crate::failed::Failed;
 use crate::parts::blocks;
 use crate::scenes::Scene;
 use crate::wants::{Calm, Machines, Wanted};
-use pr_base::NoMemory;
+use guests::below::NoMemory;
 use std::alloc::Global;
 use std::fmt::{self, Display, Formatter, Write};
 

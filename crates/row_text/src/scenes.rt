@@ -7,7 +7,7 @@ use crate::keys::Key;
 use crate::lines::Line;
 use crate::text::{bytes, from_hex, number, text, words};
 use guests::HELLO;
-use pr_base::Bytes;
+use guests::below::Bytes;
 use std::alloc::Global;
 
 /// To how many bytes the ELF file is cut.

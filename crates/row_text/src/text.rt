@@ -3,8 +3,8 @@ ghost use Rattle.std.specs.Prelude.{◌<◌, IfSome};
 
 use crate::faults::{Fault, Why};
 use crate::lines::Line;
+use guests::below::Bytes;
 use hex::FromHexError;
-use pr_base::Bytes;
 use std::alloc::Global;
 
 /// How many braces a value may have.

@@ -7,7 +7,7 @@ use crate::keys::Key;
 use crate::lines::Line;
 use crate::parts::Block;
 use crate::text::{number, text};
-use pr_base::{Bytes, NoMemory};
+use guests::below::{Bytes, NoMemory};
 use std::alloc::Global;
 
 /// On which machines a row is run.

@@ -1,8 +1,8 @@
 //! Runs through the public call.
 
-use pr_base::{Bytes, NoMemory};
+use pr_call::below::{CleanSink, CleanSource};
 use pr_call::proot;
-use pr_io::{CleanSink, CleanSource};
+use row_text::below::{Bytes, NoMemory};
 use row_text::{Runner, Told};
 use std::alloc::Global;
 

@@ -2,8 +2,8 @@
 ghost use Rattle.std.specs.Prelude.{◌≡◌, ◌^◌, ◌≤ℤ◌, pos, negsuc};
 
 use crate::distance::{fits, upper};
-use pr_base::Bytes;
 use rv_table::Instr;
+use rv_table::below::pr_base::Bytes;
 
 /// A part of a program: one or two instructions, or data.
 #[derive(Drop)]

@@ -18,6 +18,7 @@
 #![tactic(auto)]
 
 mod assembly;
+pub mod below;
 mod distance;
 mod fault;
 mod item;

@@ -9,8 +9,8 @@ ghost use Rattle.rv_asm.specs.Assembly.{first_fault, code_of, IsNear};
 use crate::assembly::{assemble, first_far, first_unbound};
 use crate::fault::AsmFault;
 use crate::item::Item;
-use pr_base::{Bytes, NoMemory};
 use rv_table::Instr;
+use rv_table::below::pr_base::{Bytes, NoMemory};
 use std::alloc::Global;
 use std::marker::Model;
 

@@ -1,7 +1,7 @@
 -- Where instructions end with a call, the process stands at it in a page.
 use Rattle.std.proofs.Common.{◌≡◌, ℕ, zero, suc, ◌+◌, ◌*◌, ◌/◌, ◌%◌, ◌<◌, Bool, true, false, ℤ, List, [], ◌∷◌, refl, cond, arith}
 use Rattle.std.specs.Prelude.{Option, Some, None, ◌==◌, not}
-use Rattle.rv_table.specs.pr_base.Fields.{little_endian}
+use Rattle.rv_mem.specs.pr_base.Fields.{little_endian}
 use Rattle.rv_mem.specs.declared.regs.Regs.{Regs}
 use Rattle.rv_mem.specs.declared.rights.Use.{Use}
 use Rattle.rv_mem.specs.declared.rights.Use.TheVariants.{Read, Write, Execute}
@@ -10,9 +10,9 @@ use Rattle.rv_mem.specs.Pages.{bytes_from, written, IsPlaced}
 use Rattle.rv_mem.specs.Actions.{Action, Done, MayUse, ReadBytes, WriteBytes, CarriedOut, carried_out, allows_uses, read_if_allowed, write_if_allowed}
 use Rattle.rv_mem.proofs.AccessLemmas.{HasPagesAt-allowed}
 use Rattle.rv_mem.proofs.SpaceLemmas.{IsPlaced-written}
-use Rattle.rv_table.specs.Rows.{decoded}
-use Rattle.rv_table.specs.declared.instr.Instr.{Instr}
-use Rattle.rv_table.specs.declared.instr.Instr.TheVariants.{Lb, Lh, Lw, Ld, Lbu, Lhu, Lwu, Sb, Sh, Sw, Sd, Beq, Bne, Blt, Bge, Bltu, Bgeu, Jalr, Jal, Ecall, Ebreak, LrW, LrD, ScW, ScD, AmoswapW, AmoswapD, AmoaddW, AmoaddD, AmoxorW, AmoxorD, AmoandW, AmoandD, AmoorW, AmoorD, AmominW, AmominD, AmomaxW, AmomaxD, AmominuW, AmominuD, AmomaxuW, AmomaxuD}
+use Rattle.rv_mem.specs.rv_table.Rows.{decoded}
+use Rattle.rv_mem.specs.rv_table.declared.instr.Instr.{Instr}
+use Rattle.rv_mem.specs.rv_table.declared.instr.Instr.TheVariants.{Lb, Lh, Lw, Ld, Lbu, Lhu, Lwu, Sb, Sh, Sw, Sd, Beq, Bne, Blt, Bge, Bltu, Bgeu, Jalr, Jal, Ecall, Ebreak, LrW, LrD, ScW, ScD, AmoswapW, AmoswapD, AmoaddW, AmoaddD, AmoxorW, AmoxorD, AmoandW, AmoandD, AmoorW, AmoorD, AmominW, AmominD, AmomaxW, AmomaxD, AmominuW, AmominuD, AmomaxuW, AmomaxuD}
 use Rattle.rv_cpu.specs.declared.event.Event.{Event}
 use Rattle.rv_cpu.specs.declared.event.Event.TheVariants.{Next, Call, Killed}
 use Rattle.rv_cpu.specs.declared.reservation.Held.{Held}

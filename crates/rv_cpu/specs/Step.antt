@@ -2,14 +2,14 @@
 -- the memory, which gives what happened, the registers and the reservation afterwards.
 use Rattle.std.specs.Prelude.{◌≡◌, ℕ, ◌*◌, ◌/◌, ◌%◌, ◌==◌, ◌<◌, ◌&&◌, not, Bool, true, false, List, [], ◌∷◌, slice_index, slice_set, Option, Some, None, ℤ, if◌then◌else◌}
 use Rattle.std.specs.Int.{bytes_low_first}
-use Rattle.rv_table.specs.pr_base.Fields.{little_endian}
+use Rattle.rv_mem.specs.pr_base.Fields.{little_endian}
 use Rattle.rv_mem.specs.declared.regs.Regs.{Regs}
 use Rattle.rv_mem.specs.declared.rights.Use.TheVariants.{Read, Write, Execute}
 use Rattle.rv_mem.specs.Memory.{Memory}
 use Rattle.rv_mem.specs.Actions.{Action, Done, WriteBytes, CarriedOut, read_if_allowed, write_if_allowed}
-use Rattle.rv_table.specs.Rows.{decoded}
-use Rattle.rv_table.specs.declared.instr.Instr.{Instr}
-use Rattle.rv_table.specs.declared.instr.Instr.TheVariants.{Lb, Lh, Lw, Ld, Lbu, Lhu, Lwu, Fence, Addi, Slti, Sltiu, Xori, Ori, Andi, Slli, Srli, Srai, Auipc, Addiw, Slliw, Srliw, Sraiw, Sb, Sh, Sw, Sd, Add, Sub, Sll, Slt, Sltu, Xor, Srl, Sra, Or, And, Mul, Mulh, Mulhsu, Mulhu, Div, Divu, Rem, Remu, Lui, Addw, Subw, Sllw, Srlw, Sraw, Mulw, Divw, Divuw, Remw, Remuw, Beq, Bne, Blt, Bge, Bltu, Bgeu, Jalr, Jal, Ecall, Ebreak, LrW, LrD, ScW, ScD, AmoswapW, AmoswapD, AmoaddW, AmoaddD, AmoxorW, AmoxorD, AmoandW, AmoandD, AmoorW, AmoorD, AmominW, AmominD, AmomaxW, AmomaxD, AmominuW, AmominuD, AmomaxuW, AmomaxuD}
+use Rattle.rv_mem.specs.rv_table.Rows.{decoded}
+use Rattle.rv_mem.specs.rv_table.declared.instr.Instr.{Instr}
+use Rattle.rv_mem.specs.rv_table.declared.instr.Instr.TheVariants.{Lb, Lh, Lw, Ld, Lbu, Lhu, Lwu, Fence, Addi, Slti, Sltiu, Xori, Ori, Andi, Slli, Srli, Srai, Auipc, Addiw, Slliw, Srliw, Sraiw, Sb, Sh, Sw, Sd, Add, Sub, Sll, Slt, Sltu, Xor, Srl, Sra, Or, And, Mul, Mulh, Mulhsu, Mulhu, Div, Divu, Rem, Remu, Lui, Addw, Subw, Sllw, Srlw, Sraw, Mulw, Divw, Divuw, Remw, Remuw, Beq, Bne, Blt, Bge, Bltu, Bgeu, Jalr, Jal, Ecall, Ebreak, LrW, LrD, ScW, ScD, AmoswapW, AmoswapD, AmoaddW, AmoaddD, AmoxorW, AmoxorD, AmoandW, AmoandD, AmoorW, AmoorD, AmominW, AmominD, AmomaxW, AmomaxD, AmominuW, AmominuD, AmomaxuW, AmomaxuD}
 use Rattle.rv_cpu.specs.declared.event.Event.{Event}
 use Rattle.rv_cpu.specs.declared.event.Event.TheVariants.{Next, Call, Killed}
 use Rattle.rv_cpu.specs.declared.reservation.Held.{Held}

@@ -12,8 +12,8 @@ use crate::event::Event;
 use crate::load::number_at;
 use crate::registers::{bytes, get, set_and_move_on};
 use crate::reservation::{Held, is_held};
+use rv_mem::below::pr_base::NoMemory;
 use rv_mem::{Regs, Space, StoreFault, Use};
-use rv_table::below::pr_base::NoMemory;
 
 /// What an AMO makes of the number in memory and of that of a register.
 #[derive(Clone, Copy)]

@@ -1,3 +1,3 @@
 //! The crates below, by which those above name them.
 pub use rv_mem;
-pub use rv_table::below::pr_base;
+pub use rv_mem::below::pr_base;

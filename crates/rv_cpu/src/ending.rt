@@ -9,8 +9,8 @@ use crate::arithmetic::{add, of_immediate};
 use crate::event::Event;
 use crate::load::{Load, loaded};
 use crate::registers::{address, bytes, move_on, set, set_and_move_on};
+use rv_mem::below::pr_base::NoMemory;
 use rv_mem::{Regs, Space, StoreFault};
-use rv_table::below::pr_base::NoMemory;
 
 /// On to the next instruction.
 #[inline(always)]

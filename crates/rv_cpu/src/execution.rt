@@ -2,8 +2,8 @@
 ghost use Rattle.std.specs.Prelude.{◌≡◌, IfOk, OnOk, IfSome};
 ghost use Rattle.rv_mem.specs.Actions.{carried_out};
 ghost use Rattle.rv_mem.specs.Memory.{page_count};
-ghost use Rattle.rv_table.specs.Small.{instr_of};
-ghost use Rattle.rv_table.specs.Rows.{decoded};
+ghost use Rattle.rv_mem.specs.rv_table.Small.{instr_of};
+ghost use Rattle.rv_mem.specs.rv_table.Rows.{decoded};
 ghost use Rattle.rv_cpu.specs.Step.{executed_word, step, Leaves, IsLowSignal, IfStopped};
 ghost use Rattle.rv_cpu.specs.Groups.{IsAtomic, IsReplacement};
 
@@ -19,9 +19,9 @@ use crate::event::Event;
 use crate::load::{Load, fetch};
 use crate::registers::{address, get};
 use crate::reservation::Held;
+use rv_mem::below::pr_base::NoMemory;
+use rv_mem::below::rv_table::Small;
 use rv_mem::{Regs, Space};
-use rv_table::Small;
-use rv_table::below::pr_base::NoMemory;
 
 /// Does one instruction: fetches the word at the pc, decodes it and executes it.
 ///

@@ -2,16 +2,16 @@
 ghost use Rattle.std.specs.Prelude.{◌≡◌, ◌%◌, IfSome, true, false};
 ghost use Rattle.rv_mem.specs.Pages.{allows_all, bytes_from};
 ghost use Rattle.rv_mem.specs.Memory.{after_read};
-ghost use Rattle.rv_table.specs.pr_base.Fields.{little_endian};
-ghost use Rattle.rv_table.specs.Small.{instr_of};
-ghost use Rattle.rv_table.specs.Rows.{decoded};
+ghost use Rattle.rv_mem.specs.pr_base.Fields.{little_endian};
+ghost use Rattle.rv_mem.specs.rv_table.Small.{instr_of};
+ghost use Rattle.rv_mem.specs.rv_table.Rows.{decoded};
 ghost use Rattle.rv_cpu.specs.Loads.{size, extended};
 ghost use Rattle.rv_cpu.specs.Step.{width};
 ghost use Rattle.rv_cpu.specs.Words as word;
 
 use crate::arithmetic::extend;
+use rv_mem::below::rv_table::Small;
 use rv_mem::{Space, Use};
-use rv_table::Small;
 
 /// How many bytes a load reads, and how it extends them.
 #[derive(Clone, Copy)]

@@ -6,8 +6,8 @@ ghost use Rattle.rv_cpu.specs.Step.{IsLowSignal};
 
 use crate::event::Event;
 use crate::execution::step;
+use rv_mem::below::pr_base::NoMemory;
 use rv_mem::{Regs, Space};
-use rv_table::below::pr_base::NoMemory;
 
 /// Does `fuel` instructions, or fewer where one of them is a call or kills, which is the last. Tells
 /// how it ended, and how many were done, in which that last one counts. Nothing is reserved at first. After `NoMemory` registers and

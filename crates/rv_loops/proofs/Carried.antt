@@ -1,11 +1,11 @@
 -- Actions that are carried out where their tests are met.
 use Rattle.std.proofs.Common.{◌≡◌, ℕ, Bool, true, ◌&&◌, List, [], ◌∷◌, length, ap, ◌∙◌}
 use Rattle.std.specs.Prelude.{if◌then◌else◌}
-use Rattle.rv_mem.specs.declared.rights.Use.{Use}
-use Rattle.rv_mem.specs.declared.rights.Use.TheVariants.{Write}
-use Rattle.rv_mem.specs.Pages.{allows_all, bytes_from, written}
-use Rattle.rv_mem.specs.Memory.{Memory, with_pages, after_read}
-use Rattle.rv_mem.specs.Actions.{Action, ReadBytes, WriteBytes, carried_out, allows_uses, read_if_allowed, write_if_allowed}
+use Rattle.rv_cpu.specs.rv_mem.declared.rights.Use.{Use}
+use Rattle.rv_cpu.specs.rv_mem.declared.rights.Use.TheVariants.{Write}
+use Rattle.rv_cpu.specs.rv_mem.Pages.{allows_all, bytes_from, written}
+use Rattle.rv_cpu.specs.rv_mem.Memory.{Memory, with_pages, after_read}
+use Rattle.rv_cpu.specs.rv_mem.Actions.{Action, ReadBytes, WriteBytes, carried_out, allows_uses, read_if_allowed, write_if_allowed}
 use Rattle.rv_cpu.specs.Step.{Stepped}
 
 pub met : {b : Bool} → b ≡ true → (next other : Action Stepped) (m : Memory) → carried_out (if b then next else other) m ≡ carried_out next m

@@ -2,16 +2,16 @@
 use Rattle.std.proofs.Common.{◌≡◌, ℕ, ◌%◌, ◌<◌, ◌^◌, Bool, true, false, ◌||◌, List, [], ◌∷◌, Some, refl, ap, ◌∙◌, arith, eq-eqb}
 use Rattle.std.specs.Prelude.{Option}
 use Rattle.std.specs.Int.{to_le_bytes, w32}
-use Rattle.pr_base.specs.Fields.{little_endian}
-use Rattle.rv_table.specs.declared.instr.Instr.{Instr}
-use Rattle.rv_table.specs.Rows.{decoded}
-use Rattle.rv_table.specs.Encoding.{IsValid, encoded}
-use Rattle.rv_table.proofs.RoundTrip.{encoded-there}
-use Rattle.rv_mem.specs.declared.regs.Regs.{Regs}
-use Rattle.rv_mem.specs.declared.rights.Use.TheVariants.{Execute}
-use Rattle.rv_mem.specs.Pages.{allows_all, bytes_from, any_marked}
-use Rattle.rv_mem.specs.Memory.{Memory, after_read}
-use Rattle.rv_mem.specs.Actions.{carried_out, read_if_allowed}
+use Rattle.rv_asm.specs.pr_base.Fields.{little_endian}
+use Rattle.rv_asm.specs.rv_table.declared.instr.Instr.{Instr}
+use Rattle.rv_asm.specs.rv_table.Rows.{decoded}
+use Rattle.rv_asm.specs.rv_table.Encoding.{IsValid, encoded}
+use Rattle.rv_asm.proofs.rv_table.RoundTrip.{encoded-there}
+use Rattle.rv_cpu.specs.rv_mem.declared.regs.Regs.{Regs}
+use Rattle.rv_cpu.specs.rv_mem.declared.rights.Use.TheVariants.{Execute}
+use Rattle.rv_cpu.specs.rv_mem.Pages.{allows_all, bytes_from, any_marked}
+use Rattle.rv_cpu.specs.rv_mem.Memory.{Memory, after_read}
+use Rattle.rv_cpu.specs.rv_mem.Actions.{carried_out, read_if_allowed}
 use Rattle.rv_cpu.specs.declared.reservation.Held.{Held}
 use Rattle.rv_cpu.specs.Step.{holds, kills, executed, executed_word, step}
 use Rattle.rv_loops.proofs.Carried.{met, read_is}

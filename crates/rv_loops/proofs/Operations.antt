@@ -3,7 +3,7 @@ use Rattle.std.proofs.Common.{◌≡◌, ℕ, ◌+◌, ◌/◌, ◌%◌, ◌^◌
 use Rattle.std.specs.Prelude.{Option, pos}
 use Rattle.std.proofs.lemmas.Bool.{cases_lt}
 use Rattle.std.proofs.lemmas.Nat.{and_mod, or_mod, xor_mod}
-use Rattle.rv_mem.specs.declared.regs.Regs.{Regs}
+use Rattle.rv_cpu.specs.rv_mem.declared.regs.Regs.{Regs}
 use Rattle.rv_cpu.specs.declared.reservation.Held.{Held}
 use Rattle.rv_cpu.specs.Words.{wrapped, sum, both, either, exactly_one, sign_extended}
 use Rattle.rv_cpu.specs.Step.{register, lowest_bytes, width, widened, gives, holds, reserves, stores_if_held, replaces, executed}

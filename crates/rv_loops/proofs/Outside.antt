@@ -1,11 +1,11 @@
 -- Instructions stay where they stand while bytes outside of them are written.
 use Rattle.std.proofs.Common.{◌≡◌, ◌≢◌, ℕ, zero, suc, ◌+◌, ◌<◌, ◌≤◌, Bool, false, ◌&&◌, ◌||◌, List, [], ◌∷◌, length, inl, inr, refl, ap, ◌∙◌, arith}
 use Rattle.std.specs.Prelude.{◌⊎◌}
-use Rattle.rv_table.specs.declared.instr.Instr.{Instr}
-use Rattle.rv_mem.specs.declared.rights.Use.{Use}
-use Rattle.rv_mem.specs.declared.rights.Use.TheVariants.{Execute}
-use Rattle.rv_mem.specs.Pages.{Pages, allows, allows_all, byte_at, bytes_from, is_marked, any_marked, written}
-use Rattle.rv_mem.proofs.AddressLemmas.{allows-written, byte_at-written_other, is_marked-written_other}
+use Rattle.rv_asm.specs.rv_table.declared.instr.Instr.{Instr}
+use Rattle.rv_cpu.specs.rv_mem.declared.rights.Use.{Use}
+use Rattle.rv_cpu.specs.rv_mem.declared.rights.Use.TheVariants.{Execute}
+use Rattle.rv_cpu.specs.rv_mem.Pages.{Pages, allows, allows_all, byte_at, bytes_from, is_marked, any_marked, written}
+use Rattle.rv_cpu.proofs.rv_mem.AddressLemmas.{allows-written, byte_at-written_other, is_marked-written_other}
 use Rattle.rv_cpu.specs.Words.{sum}
 use Rattle.rv_loops.specs.Loops.{Stands}
 

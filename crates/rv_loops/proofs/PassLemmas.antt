@@ -2,14 +2,14 @@
 use Rattle.std.proofs.Common.{◌≡◌, ◌≢◌, ℕ, zero, suc, ◌+◌, ◌%◌, ◌<◌, Bool, true, false, ◌&&◌, List, [], ◌∷◌, length, Some, None, refl, sym, ap, ◌∙◌, arith, lit<, eq-eqb, subst}
 use Rattle.std.specs.Prelude.{Option, not, ◌==◌, negsuc, if◌then◌else◌}
 use Rattle.std.proofs.lemmas.List.{length-set}
-use Rattle.pr_base.specs.Fields.{little_endian}
-use Rattle.rv_table.specs.declared.instr.Instr.{Instr}
-use Rattle.rv_table.specs.Encoding.{IsValid}
-use Rattle.rv_mem.specs.declared.regs.Regs.{Regs}
-use Rattle.rv_mem.specs.declared.rights.Use.TheVariants.{Read, Write}
-use Rattle.rv_mem.specs.Pages.{allows_all, bytes_from, written}
-use Rattle.rv_mem.specs.Memory.{Memory, after_read, with_pages}
-use Rattle.rv_mem.specs.Actions.{CarriedOut, WriteBytes, carried_out, allows_uses, read_if_allowed, write_if_allowed}
+use Rattle.rv_asm.specs.pr_base.Fields.{little_endian}
+use Rattle.rv_asm.specs.rv_table.declared.instr.Instr.{Instr}
+use Rattle.rv_asm.specs.rv_table.Encoding.{IsValid}
+use Rattle.rv_cpu.specs.rv_mem.declared.regs.Regs.{Regs}
+use Rattle.rv_cpu.specs.rv_mem.declared.rights.Use.TheVariants.{Read, Write}
+use Rattle.rv_cpu.specs.rv_mem.Pages.{allows_all, bytes_from, written}
+use Rattle.rv_cpu.specs.rv_mem.Memory.{Memory, after_read, with_pages}
+use Rattle.rv_cpu.specs.rv_mem.Actions.{CarriedOut, WriteBytes, carried_out, allows_uses, read_if_allowed, write_if_allowed}
 use Rattle.rv_cpu.specs.declared.event.Event.TheVariants.{Next}
 use Rattle.rv_cpu.specs.declared.reservation.Held.{Held}
 use Rattle.rv_cpu.specs.Words.{sum}

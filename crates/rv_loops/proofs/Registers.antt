@@ -2,7 +2,7 @@
 use Rattle.std.proofs.Common.{◌≡◌, ◌≢◌, ℕ, ◌<◌, length, sym, ap, refl, ne_eqb}
 use Rattle.std.specs.Prelude.{◌==◌, if◌then◌else◌, slice_set}
 use Rattle.std.proofs.lemmas.List.{get_or-set_same, get_or-set_other}
-use Rattle.rv_mem.specs.declared.regs.Regs.{Regs}
+use Rattle.rv_cpu.specs.rv_mem.declared.regs.Regs.{Regs}
 use Rattle.rv_cpu.specs.Step.{register, with_register}
 
 -- a register other than register 0 set

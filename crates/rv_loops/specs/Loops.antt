@@ -1,12 +1,12 @@
 -- A loop of LR and SC: its four instructions, and what a pass of it needs.
 use Rattle.std.specs.Prelude.{◌≡◌, ◌≢◌, ℕ, ◌+◌, ◌%◌, ◌<◌, ◌≤◌, ◌⊎◌, Bool, true, false, if◌then◌else◌, pos, negsuc, List, [], ◌∷◌, length, map, slice_index, None}
-use Rattle.rv_table.specs.declared.instr.Instr.{Instr}
-use Rattle.rv_table.specs.declared.instr.Instr.TheVariants.{LrW, LrD, ScW, ScD, Addi, Add as Plus, Xor as ExclusiveOr, And as Both, Or as Either, Bne, AmoswapW, AmoswapD, AmoaddW, AmoaddD, AmoxorW, AmoxorD, AmoandW, AmoandD, AmoorW, AmoorD}
-use Rattle.rv_mem.specs.declared.regs.Regs.{Regs}
-use Rattle.rv_mem.specs.declared.rights.Use.TheVariants.{Read, Write, Execute}
-use Rattle.rv_mem.specs.Pages.{Pages, allows_all, bytes_from, any_marked}
-use Rattle.rv_mem.specs.Memory.{Memory}
-use Rattle.rv_mem.specs.Actions.{CarriedOut, carried_out}
+use Rattle.rv_asm.specs.rv_table.declared.instr.Instr.{Instr}
+use Rattle.rv_asm.specs.rv_table.declared.instr.Instr.TheVariants.{LrW, LrD, ScW, ScD, Addi, Add as Plus, Xor as ExclusiveOr, And as Both, Or as Either, Bne, AmoswapW, AmoswapD, AmoaddW, AmoaddD, AmoxorW, AmoxorD, AmoandW, AmoandD, AmoorW, AmoorD}
+use Rattle.rv_cpu.specs.rv_mem.declared.regs.Regs.{Regs}
+use Rattle.rv_cpu.specs.rv_mem.declared.rights.Use.TheVariants.{Read, Write, Execute}
+use Rattle.rv_cpu.specs.rv_mem.Pages.{Pages, allows_all, bytes_from, any_marked}
+use Rattle.rv_cpu.specs.rv_mem.Memory.{Memory}
+use Rattle.rv_cpu.specs.rv_mem.Actions.{CarriedOut, carried_out}
 use Rattle.rv_cpu.specs.Words.{sum}
 use Rattle.rv_cpu.specs.Step.{Stepped, register, width, executed}
 pub use Rattle.rv_asm.specs.Program.{with_code}

@@ -3,9 +3,9 @@ ghost use Rattle.std.specs.Prelude.{◌≡◌, OnOk, OnErr};
 ghost use Rattle.rv_loops.specs.Loops.{AreUsable, with_code};
 ghost use Rattle.rv_loops.specs.Loops as spec;
 
-use pr_base::NoMemory;
 use rv_asm::Asm;
-use rv_table::Instr;
+use rv_asm::below::Instr;
+use rv_cpu::below::pr_base::NoMemory;
 
 /// What a loop makes of the number in memory and of that of a register.
 #[derive(Clone, Copy)]

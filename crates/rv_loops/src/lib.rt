@@ -14,6 +14,7 @@
 //! Only tested, or not shown: `rv_tests` makes a pass by `turn`; the rows of `rv_rows` have the code of loops, and run it by `run`.
 #![tactic(auto)]
 
+pub mod below;
 mod code;
 mod pass;
 

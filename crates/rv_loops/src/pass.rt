@@ -5,9 +5,9 @@ ghost use Rattle.rv_cpu.specs.Words.{sum};
 ghost use Rattle.rv_loops.specs.Loops.{CanPass, after_amo};
 
 use crate::code::{LoopOp, LoopRegs};
-use pr_base::NoMemory;
+use rv_cpu::below::pr_base::NoMemory;
+use rv_cpu::below::rv_mem::Space;
 use rv_cpu::{Event, Regs, run};
-use rv_mem::Space;
 
 // An array of registers has 32 of them, which the proof of a pass asks for.
 fn counted(x: &[u64; 32])

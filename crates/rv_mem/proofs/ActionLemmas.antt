@@ -8,7 +8,7 @@ use Rattle.rv_mem.specs.Page.{PageState, grants, page_written}
 use Rattle.rv_mem.specs.Pages.{Pages, with_page, written, byte_at, is_marked, allows, allows_all, any_marked, bytes_from, IsWhole}
 use Rattle.rv_mem.specs.Memory.{Memory, with_pages, after_read}
 use Rattle.rv_mem.specs.Actions.{Action, Done, MayUse, ReadBytes, WriteBytes, CarriedOut, carried_out, allows_uses, rights_of, AreEqualUnmarked, ReadsAlike}
-use Rattle.pr_base.proofs.MapLemmas.{get-changed_same, get-changed_other}
+use Rattle.rv_table.proofs.pr_base.MapLemmas.{get-changed_same, get-changed_other}
 use Rattle.rv_mem.proofs.SpaceLemmas.{IsWhole-written}
 use Rattle.rv_mem.proofs.AddressLemmas.{byte_at-written_other, is_marked-written_other, byte_at-written_in}
 use Rattle.rv_mem.proofs.ChangeLemmas.{contains-with_page}

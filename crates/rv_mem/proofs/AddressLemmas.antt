@@ -8,7 +8,7 @@ use Rattle.std.proofs.lemmas.List.{get_or-set_same, get_or-set_other}
 use Rattle.rv_mem.specs.declared.rights.Use.{Use}
 use Rattle.rv_mem.specs.Page.{PageState, grants, page_written, page_marked}
 use Rattle.rv_mem.specs.Pages.{Pages, with_page, written, marked, byte_at, is_marked, allows, IsWhole}
-use Rattle.pr_base.proofs.MapLemmas.{get-changed_same, get-changed_other}
+use Rattle.rv_table.proofs.pr_base.MapLemmas.{get-changed_same, get-changed_other}
 use Rattle.rv_mem.proofs.SpaceLemmas.{IsWhole-written, IsWhole-marked}
 use Rattle.rv_mem.proofs.ChangeLemmas.{contains-with_page}
 

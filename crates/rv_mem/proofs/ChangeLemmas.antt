@@ -7,7 +7,7 @@ use Rattle.std.proofs.lemmas.Bool.{cases_eq}
 use Rattle.rv_mem.specs.declared.rights.Rights.{Rights}
 use Rattle.rv_mem.specs.Page.{PageState, fresh_page, page_written, page_marked}
 use Rattle.rv_mem.specs.Pages.{Pages, with_page, written, marked, mapped, unmapped, protected}
-use Rattle.pr_base.proofs.MapLemmas.{by_key, get-insert_same, get-insert_other, get-remove_same, get-remove_other, get-changed_same, get-changed_other, changed-some, changed-none}
+use Rattle.rv_table.proofs.pr_base.MapLemmas.{by_key, get-insert_same, get-insert_other, get-remove_same, get-remove_other, get-changed_same, get-changed_other, changed-some, changed-none}
 
 -- ---- which pages are there
 

@@ -5,7 +5,7 @@ use Rattle.std.proofs.Math.Seq.{sets, length-sets}
 use Rattle.std.proofs.lemmas.Bool.{cases_eq, cases_lt}
 use Rattle.std.proofs.lemmas.Option.{none-some}
 use Rattle.std.proofs.lemmas.List.{same_lists, length-take, length-drop, get_or-take, get_or-drop, get_or-set_other, get_or-set_same, length-set}
-use Rattle.pr_base.specs.Fields.{little_endian}
+use Rattle.rv_table.specs.pr_base.Fields.{little_endian}
 use Rattle.rv_table.specs.declared.instr.Instr.{Instr}
 use Rattle.rv_table.specs.declared.small.Small.{Small}
 use Rattle.rv_table.specs.declared.small.Small.TheVariants.{Nothing}

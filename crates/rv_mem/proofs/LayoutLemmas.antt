@@ -2,8 +2,8 @@
 use Rattle.std.specs.FinMap as map
 use Rattle.std.proofs.Common.{◌≡◌, ℕ, zero, suc, ◌+◌, ◌-◌, ◌/◌, ◌%◌, ◌≤◌, ◌<◌, Bool, true, false, ◌||◌, List, [], ◌∷◌, refl, sym, ap, ◌∙◌, arith, Option, Some, None, is_some}
 use Rattle.std.specs.Option.{option_map, IfSome, IfNone}
-use Rattle.pr_base.specs.Maps.{changed}
-use Rattle.pr_base.proofs.MapLemmas.{same_values, by_key, get-mapped, len-mapped, mapped-insert, mapped-remove, get-changed_same, get-changed_other}
+use Rattle.rv_table.specs.pr_base.Maps.{changed}
+use Rattle.rv_table.proofs.pr_base.MapLemmas.{same_values, by_key, get-mapped, len-mapped, mapped-insert, mapped-remove, get-changed_same, get-changed_other}
 use Rattle.rv_mem.specs.declared.rights.Rights.{Rights}
 use Rattle.rv_mem.specs.Page.{PageState, page_written, page_marked, page_with_rights}
 use Rattle.rv_mem.specs.Pages.{Pages, with_page, written, marked, mapped, unmapped, protected, HasNoPages}

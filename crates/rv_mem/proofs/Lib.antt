@@ -1,4 +1,4 @@
-pub use Rattle.pr_base.proofs as pr_base
+pub use Rattle.rv_table.proofs.pr_base as pr_base
 pub use Rattle.rv_table.proofs as rv_table
 pub mod AccessLemmas
 pub mod ActionLemmas

@@ -12,7 +12,7 @@ use Rattle.std.specs.BTreeMap.{BTreeMap, get_by}
 use Rattle.rv_mem.specs.Page.{PageState}
 use Rattle.rv_mem.specs.Pages.{Pages, HasNoPages}
 use Rattle.rv_mem.specs.Places.{places_of, pages_at}
-use Rattle.pr_base.proofs.BTreeLemmas.{get-view}
+use Rattle.rv_table.proofs.pr_base.BTreeLemmas.{get-view}
 use Rattle.rv_mem.proofs.PlaceLemmas.{absent, contains-pages_at}
 
 -- a look-up in the tree is one in the map

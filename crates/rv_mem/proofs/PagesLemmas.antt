@@ -4,7 +4,7 @@ use Rattle.std.proofs.Common.{◌≡◌, ℕ, ◌+◌, ◌*◌, ◌/◌, ◌%◌
 use Rattle.std.specs.Option.{option_map_or}
 use Rattle.std.specs.List.{list_any}
 use Rattle.std.proofs.lemmas.List.{drop_more}
-use Rattle.pr_base.proofs.MapLemmas.{changed-id, changed-none, changed-twice, changed-alike}
+use Rattle.rv_table.proofs.pr_base.MapLemmas.{changed-id, changed-none, changed-twice, changed-alike}
 use Rattle.rv_mem.specs.declared.rights.Use.{Use}
 use Rattle.rv_mem.specs.Page.{PageState, page_written, page_marked}
 use Rattle.rv_mem.specs.Pages.{Pages, with_page, written, marked, page_allows, allows, allows_all, byte_at, bytes_from, is_marked, any_marked, HasNoPages}

@@ -6,13 +6,13 @@ use Rattle.std.specs.Option.{option_map}
 use Rattle.std.proofs.lemmas.Bool.{cases_eq}
 use Rattle.std.proofs.lemmas.Option.{none-some}
 use Rattle.std.proofs.lemmas.List.{length-append, length-set, get_or-set_same, get_or-set_other, get_or_push, get_or_append_left, get_or_default}
-use Rattle.pr_base.proofs.MapLemmas.{same_values, by_key, get-mapped, len-mapped, mapped-empty, get-insert_same, get-insert_other, get-remove_same, get-remove_other, get-changed_same, get-changed_other, changed-none}
+use Rattle.rv_table.proofs.pr_base.MapLemmas.{same_values, by_key, get-mapped, len-mapped, mapped-empty, get-insert_same, get-insert_other, get-remove_same, get-remove_other, get-changed_same, get-changed_other, changed-none}
 use Rattle.rv_mem.specs.Page.{PageState}
 use Rattle.rv_mem.specs.Pages.{Pages, with_page}
 use Rattle.std.specs.Ordering.{nat_cmp}
 use Rattle.rv_mem.proofs.TableLemmas.{below_or_not}
 use Rattle.rv_mem.specs.Places.{Places, no_page, page_at, pages_at, AreNumbered, IsSettled}
-use Rattle.pr_base.proofs.TextLemmas.{some_is}
+use Rattle.rv_table.proofs.pr_base.TextLemmas.{some_is}
 
 -- ---- what stands where
 

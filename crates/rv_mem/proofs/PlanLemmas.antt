@@ -7,7 +7,7 @@ use Rattle.std.proofs.lemmas.Bool.{cases_eq}
 use Rattle.rv_mem.specs.Page.{PageState, page_written}
 use Rattle.rv_mem.specs.Pages.{Pages, with_page, written, replaced}
 use Rattle.rv_mem.proofs.PagesLemmas.{written_in_page}
-use Rattle.pr_base.proofs.MapLemmas.{get-changed_same, get-changed_other, changed-swap, changed-alike}
+use Rattle.rv_table.proofs.pr_base.MapLemmas.{get-changed_same, get-changed_other, changed-swap, changed-alike}
 
 pub replaced-nil : (m : Pages) (first : ℕ) → replaced m first [] ≡ m
 unfolding replaced

@@ -9,7 +9,7 @@ use Rattle.rv_mem.specs.Page.{PageState, fresh_page, page_written, page_marked, 
 use Rattle.rv_mem.specs.Pages.{Pages, with_page, written, marked, mapped, unmapped, protected, IsPlaced, IsWhole}
 use Rattle.rv_mem.proofs.ChangeLemmas.{contains-written, contains-marked, contains-protected, get-mapped_out, get-unmapped_in, get-unmapped_out}
 use Rattle.rv_mem.proofs.PageLemmas.{length-zero_bytes, length-no_marks}
-use Rattle.pr_base.proofs.MapLemmas.{by_key, get-insert_same, get-insert_other, get-remove_same, get-remove_other, get-changed_same, get-changed_other}
+use Rattle.rv_table.proofs.pr_base.MapLemmas.{by_key, get-insert_same, get-insert_other, get-remove_same, get-remove_other, get-changed_same, get-changed_other}
 use Rattle.rv_mem.proofs.TableLemmas.{by_range}
 
 pub IsPlaced-empty : IsPlaced map.empty

@@ -11,7 +11,7 @@ use Rattle.std.proofs.lemmas.List.Folds.{list_any-append}
 use Rattle.rv_mem.specs.declared.rights.Rights.{Rights}
 use Rattle.rv_mem.specs.Page.{PageState, fresh_page, page_with_rights}
 use Rattle.rv_mem.specs.Pages.{Pages, with_page, mapped, unmapped, protected, marked, has_pages, HasNoPages, IsPlaced}
-use Rattle.pr_base.proofs.MapLemmas.{same_values, get-insert_same, get-insert_other, get-remove_same, get-remove_other, get-changed_same, get-changed_other}
+use Rattle.rv_table.proofs.pr_base.MapLemmas.{same_values, get-insert_same, get-insert_other, get-remove_same, get-remove_other, get-changed_same, get-changed_other}
 use Rattle.rv_mem.proofs.PagesLemmas.{marked-add, marked_nowhere}
 use Rattle.rv_mem.proofs.ChangeLemmas.{len-mapped_more, len-mapped-le, get-mapped_in, get-mapped_out, get-unmapped_in, get-unmapped_out}
 

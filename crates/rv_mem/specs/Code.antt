@@ -1,6 +1,6 @@
 -- What was decoded of a page.
 use Rattle.std.specs.Prelude.{◌≡◌, ◌<◌, ◌*◌, ℕ, Bool, true, List, length, take, drop, slice_index_or, Some}
-use Rattle.pr_base.specs.Fields.{little_endian}
+use Rattle.rv_table.specs.pr_base.Fields.{little_endian}
 use Rattle.rv_table.specs.declared.instr.Instr.{Instr}
 use Rattle.rv_table.specs.declared.small.Small.{Small}
 use Rattle.rv_table.specs.Small.{instr_of}

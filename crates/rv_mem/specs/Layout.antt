@@ -2,7 +2,7 @@
 use Rattle.std.specs.FinMap as map
 use Rattle.std.specs.Prelude.{◌≡◌, ◌≤◌, ◌<◌, ℕ, zero, suc, ◌+◌, Bool, false, ◌||◌, List, None}
 use Rattle.std.specs.Ordering.{nat_cmp}
-use Rattle.pr_base.specs.Maps.{changed, mapped as each_mapped}
+use Rattle.rv_table.specs.pr_base.Maps.{changed, mapped as each_mapped}
 use Rattle.rv_mem.specs.declared.rights.Rights.{Rights}
 use Rattle.rv_mem.specs.Pages.{Pages, written, marked, mapped, unmapped, protected}
 use Rattle.rv_mem.specs.Actions.{AreEqualUnmarked, rights_of}

@@ -1,4 +1,4 @@
-pub use Rattle.pr_base.specs as pr_base
+pub use Rattle.rv_table.specs.pr_base as pr_base
 pub use Rattle.rv_table.specs as rv_table
 pub mod Actions
 pub mod Code

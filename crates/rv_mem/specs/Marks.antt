@@ -3,7 +3,7 @@ use Rattle.std.specs.Prelude.{◌≡◌, ◌≢◌, ℕ, zero, suc, ◌/◌, ◌
 use Rattle.std.specs.Int.{bit_at}
 use Rattle.std.specs.List.{range_with_len}
 use Rattle.rv_mem.specs.declared.marks.Marks.{Marks}
-use Rattle.pr_base.specs.Page.{page_size}
+use Rattle.rv_table.specs.pr_base.Page.{page_size}
 
 -- a page without a mark
 unfoldable pub no_marks : List Bool

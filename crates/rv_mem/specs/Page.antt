@@ -6,7 +6,7 @@ use Rattle.rv_mem.specs.declared.rights.Rights.{Rights}
 use Rattle.rv_mem.specs.declared.rights.Use.{Use}
 use Rattle.rv_mem.specs.declared.rights.Use.TheVariants.{Read, Write, Execute}
 use Rattle.rv_mem.specs.Marks.{no_marks}
-use Rattle.pr_base.specs.Page.{page_size}
+use Rattle.rv_table.specs.pr_base.Page.{page_size}
 
 -- whether the rights allow a use
 abbrev pub grants : Rights → Use → Bool

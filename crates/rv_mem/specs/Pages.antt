@@ -6,11 +6,11 @@ use Rattle.std.specs.List.{AllByRecursion}
 use Rattle.std.specs.Option.{option_map_or}
 use Rattle.std.specs.Ordering.{nat_cmp}
 use Rattle.std.specs.Coded.{Coded, coded_ℕ}
-use Rattle.pr_base.specs.Maps.{changed}
+use Rattle.rv_table.specs.pr_base.Maps.{changed}
 use Rattle.rv_mem.specs.declared.rights.Rights.{Rights}
 use Rattle.rv_mem.specs.declared.rights.Use.{Use}
 use Rattle.rv_mem.specs.Page.{PageState, page_code, fresh_page, grants, page_with_rights, page_written, page_marked}
-use Rattle.pr_base.specs.Page.{page_size}
+use Rattle.rv_table.specs.pr_base.Page.{page_size}
 
 abbrev pub Pages : Type 0
 Pages = map.FinMap nat_cmp PageState

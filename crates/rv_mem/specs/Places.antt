@@ -2,7 +2,7 @@
 use Rattle.std.specs.FinMap as map
 use Rattle.std.specs.Prelude.{◌≡◌, ◌≢◌, ◌<◌, ℕ, false, List, Some, length, slice_index, slice_index_or}
 use Rattle.std.specs.Ordering.{nat_cmp}
-use Rattle.pr_base.specs.Maps.{mapped as each_mapped}
+use Rattle.rv_table.specs.pr_base.Maps.{mapped as each_mapped}
 use Rattle.rv_mem.specs.Page.{PageState, fresh_page}
 use Rattle.rv_mem.specs.Pages.{Pages}
 

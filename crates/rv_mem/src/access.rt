@@ -1,5 +1,5 @@
 //! Bytes read and written over several pages.
-ghost use Rattle.pr_base.specs.Page.{page_size};
+ghost use Rattle.rv_table.specs.pr_base.Page.{page_size};
 ghost use Rattle.std.specs.Prelude.{◌≡◌, ◌↔◌, ◌+◌, ◌%◌, ◌^◌, ◌<◌, ◌≤◌, length, false, IsTrue, IsErrOf, IfOk, OnOk, OnErr, ◌/◌, MatchOption};
 ghost use Rattle.std.specs.FinMap as map;
 
@@ -7,7 +7,7 @@ use crate::fault::StoreFault;
 use crate::page_list::MarkedPage;
 use crate::rights::Use;
 use crate::table::Table;
-use pr_base::{NoMemory, PAGE_SIZE};
+use rv_table::below::pr_base::{NoMemory, PAGE_SIZE};
 
 impl<const MARKED: u8> Table<MARKED> {
     ghost use Rattle.rv_mem.specs.Pages.{allows_all, any_marked, bytes_from, written, replaced, HasPagesAt, IsPlaced, IsRefused, IsRead};

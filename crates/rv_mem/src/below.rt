@@ -1,3 +1,3 @@
 //! The crates below, by which those above name them.
-pub use pr_base;
 pub use rv_table;
+pub use rv_table::below::pr_base;

@@ -1,6 +1,6 @@
 //! Why a call on a memory is refused.
 
-use pr_base::NoMemory;
+use rv_table::below::pr_base::NoMemory;
 use std::alloc::AllocError;
 
 /// Why pages aren't mapped or copied.

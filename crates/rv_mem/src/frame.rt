@@ -1,10 +1,10 @@
 //! The bytes of a page, as they are stored.
-ghost use Rattle.pr_base.specs.Page.{page_size};
+ghost use Rattle.rv_table.specs.pr_base.Page.{page_size};
 ghost use Rattle.std.specs.Prelude.{◌≡◌, ◌+◌, ◌-◌, ◌≤◌, length, take, drop, IfOk, nat_eq, position};
 ghost use Rattle.std.proofs.Math.Seq.{sets};
 ghost use Rattle.rv_mem.specs.Page.{zero_bytes};
 
-use pr_base::PAGE_SIZE;
+use rv_table::below::pr_base::PAGE_SIZE;
 use std::alloc::{AllocError, Global};
 use std::marker::Model;
 
@@ -19,7 +19,7 @@ pub struct Frame {
 
 impl Model for Frame {
     ghost use Rattle.std.specs.Prelude.{◌≡◌, List, ℕ, length};
-    ghost use Rattle.pr_base.specs.Page.{page_size};
+    ghost use Rattle.rv_table.specs.pr_base.Page.{page_size};
 
     ghost Value = { List ℕ };
 

@@ -2,7 +2,7 @@
 //!
 //! The first of the pages have marks that are stored; the others have none. The room for those of all pages is kept, so that
 //! marking takes no memory, but what isn't used of it is never touched.
-ghost use Rattle.pr_base.specs.Page.{page_size};
+ghost use Rattle.rv_table.specs.pr_base.Page.{page_size};
 ghost use Rattle.std.specs.Prelude.{◌≡◌, ◌≢◌, ◌+◌, ◌-◌, ◌<◌, ◌≤◌, ℕ, take, drop, replicate, length, max, IfOk, OnOk, true, false};
 ghost use Rattle.std.specs.List.{list_any};
 ghost use Rattle.std.specs.Vec.{vec_capacity};

@@ -1,5 +1,5 @@
 //! The marks of a page's bytes.
-ghost use Rattle.pr_base.specs.Page.{page_size};
+ghost use Rattle.rv_table.specs.pr_base.Page.{page_size};
 ghost use Rattle.std.specs.Prelude.{◌≡◌, ◌≢◌, ◌+◌, ◌-◌, ◌*◌, ◌/◌, ◌%◌, ◌<◌, ◌≤◌, ℕ, take, drop, replicate, length, nat_eq, slice_index, false, true};
 ghost use Rattle.std.specs.Int.{bit_at};
 ghost use Rattle.std.specs.List.{list_any};

@@ -1,5 +1,5 @@
 //! A page of a process's memory, without its marks.
-ghost use Rattle.pr_base.specs.Page.{page_size};
+ghost use Rattle.rv_table.specs.pr_base.Page.{page_size};
 ghost use Rattle.std.specs.Prelude.{◌≡◌, ◌+◌, ◌%◌, ◌≤◌, Some, length, take, drop, IfSome, OnOk, OnErr, nat_eq, position};
 ghost use Rattle.rv_table.specs.Small.{instr_of};
 ghost use Rattle.rv_table.specs.Rows.{decoded};
@@ -8,7 +8,7 @@ ghost use Rattle.rv_mem.specs.Code.{word_at};
 use crate::code::{Code, INSTRUCTION};
 use crate::rights::{Rights, Use};
 use crate::shared::Shared;
-use pr_base::NoMemory;
+use rv_table::below::pr_base::NoMemory;
 use rv_table::{Small, decode};
 use std::alloc::{AllocError, Global};
 use std::marker::Model;

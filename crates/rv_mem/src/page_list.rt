@@ -1,5 +1,5 @@
 //! The pages of a memory by their places in a list.
-ghost use Rattle.pr_base.specs.Page.{page_size};
+ghost use Rattle.rv_table.specs.pr_base.Page.{page_size};
 ghost use Rattle.std.specs.Prelude.{◌≡◌, ◌≢◌, ◌+◌, ◌-◌, ◌%◌, ◌<◌, ◌≤◌, ◌++◌, [], ◌∷◌, ℕ, length, take, drop, slice_set, IfOk, OnOk, OnErr, nat_eq, position};
 ghost use Rattle.std.specs.List.{list_any};
 ghost use Rattle.rv_table.specs.Small.{instr_of};
@@ -11,8 +11,8 @@ use crate::mark_list;
 use crate::marks::Marks;
 use crate::page::Page;
 use crate::rights::{Rights, Use};
-use pr_base::NoMemory;
 use rv_table::Small;
+use rv_table::below::pr_base::NoMemory;
 use std::alloc::Global;
 use std::marker::Model;
 

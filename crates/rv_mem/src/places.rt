@@ -6,7 +6,7 @@ ghost use Rattle.rv_mem.specs.Places.{places_of, AreNumbered, IsSettled};
 
 use crate::page_list::PageList;
 use crate::rights::Rights;
-use pr_base::NoMemory;
+use rv_table::below::pr_base::NoMemory;
 use std::collections::BTreeMap;
 
 /// The place of the page at a number, if it is there.

@@ -6,7 +6,7 @@ ghost use Rattle.std.specs.FinMap as map;
 use crate::rights::Rights;
 use crate::space::PAGES_END;
 use crate::table::Table;
-use pr_base::{NoMemory, PAGE_SIZE};
+use rv_table::below::pr_base::{NoMemory, PAGE_SIZE};
 use std::alloc::AllocError;
 
 /// The number of a page is below this one.

@@ -1,11 +1,11 @@
 //! The bytes of a page, shared by its copies.
-ghost use Rattle.pr_base.specs.Page.{page_size};
+ghost use Rattle.rv_table.specs.pr_base.Page.{page_size};
 ghost use Rattle.std.specs.Prelude.{◌≡◌, ◌+◌, ◌≤◌, length, take, drop, IfOk, OnOk, OnErr, nat_eq, position};
 ghost use Rattle.std.proofs.Math.Seq.{sets};
 ghost use Rattle.rv_mem.specs.Page.{zero_bytes};
 
 use crate::frame::Frame;
-use pr_base::NoMemory;
+use rv_table::below::pr_base::NoMemory;
 use std::alloc::{AllocError, Global};
 use std::marker::Model;
 use std::rc::Rc;

@@ -1,8 +1,8 @@
 //! The memory of one process.
-ghost use Rattle.pr_base.specs.Page.{page_size};
+ghost use Rattle.rv_table.specs.pr_base.Page.{page_size};
 ghost use Rattle.std.specs.Prelude.{◌≡◌, ◌↔◌, ◌⊎◌, ◌+◌, ◌-◌, ◌*◌, ◌/◌, ◌%◌, ◌<◌, ◌≤◌, true, false, length, nat_eq, if◌then◌else◌, IsErr, IsOk, IsTrue, IfOk, OnOk, OnErr, IfNone, IfSome, IsErrOf};
 ghost use Rattle.std.specs.FinMap as map;
-ghost use Rattle.pr_base.specs.Fields.{little_endian};
+ghost use Rattle.rv_table.specs.pr_base.Fields.{little_endian};
 ghost use Rattle.rv_table.specs.Small.{instr_of};
 ghost use Rattle.rv_table.specs.Rows.{decoded};
 
@@ -11,8 +11,8 @@ use crate::rights::{Rights, Use};
 use crate::room::Room;
 use crate::table::Table;
 use crate::text::TextEnd;
-use pr_base::{Bytes, PAGE_SIZE};
 use rv_table::Small;
+use rv_table::below::pr_base::{Bytes, PAGE_SIZE};
 use std::alloc::Global;
 use std::marker::Model;
 

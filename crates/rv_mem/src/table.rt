@@ -1,5 +1,5 @@
 //! The pages of a memory by their numbers.
-ghost use Rattle.pr_base.specs.Page.{page_size};
+ghost use Rattle.rv_table.specs.pr_base.Page.{page_size};
 ghost use Rattle.std.specs.Prelude.{◌≡◌, ◌↔◌, ℕ, ◌+◌, ◌-◌, ◌*◌, ◌/◌, ◌%◌, ◌<◌, ◌≤◌, length, IfOk, OnOk, OnErr, IsErrOf, IsTrue, IfNone, IfSome, MatchOption, Some, None, ◌≢◌, nat_eq, true, false};
 ghost use Rattle.std.specs.FinMap as map;
 
@@ -9,7 +9,7 @@ use crate::page_list::{MarkedPage, PageList};
 use crate::places::{place_of, put_behind, recalled, settle};
 use crate::recent::Recent;
 use crate::rights::{Rights, Use};
-use pr_base::{NoMemory, PAGE_SIZE};
+use rv_table::below::pr_base::{NoMemory, PAGE_SIZE};
 use std::alloc::{AllocError, Global};
 use std::collections::BTreeMap;
 use std::marker::Model;

@@ -3,7 +3,7 @@ ghost use Rattle.std.specs.Prelude.{◌≡◌, ◌+◌, ◌-◌, ◌^◌, ◌≤
 
 use crate::rights::Use;
 use crate::table::Table;
-use pr_base::PAGE_SIZE;
+use rv_table::below::pr_base::PAGE_SIZE;
 use std::alloc::AllocError;
 
 /// Where the search for a text's end stopped.

@@ -1,7 +1,6 @@
 //! Why a row can't be read.
 
-use pr_base::NoMemory;
-use rv_mem::{MapFault, StoreFault};
+use rv_loops::below::{MapFault, NoMemory, StoreFault};
 use std::alloc::{AllocError, AllocFailed};
 use std::fmt;
 

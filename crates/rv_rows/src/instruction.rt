@@ -2,7 +2,7 @@
 
 use crate::fault::{Fault, Why};
 use crate::number::{register, value};
-use rv_table::Instr;
+use rv_loops::below::Instr;
 use std::alloc::Global;
 
 /// Those without operands.

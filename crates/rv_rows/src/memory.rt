@@ -1,11 +1,13 @@
 //! Rows of memories: actions with a `;` between each two, carried out in order on one room.
 ghost use Rattle.std.specs.Prelude.{◌≡◌, ◌+◌, ◌*◌, ◌%◌, ◌≤◌, IfOk, IsTrue};
-ghost use Rattle.pr_base.specs.Page.{page_size};
-ghost use Rattle.rv_mem.specs.Memory.{page_count};
+ghost use Rattle.rv_loops.specs.pr_base.Page.{page_size};
+ghost use Rattle.rv_loops.specs.rv_mem.Memory.{page_count};
 
 use crate::fault::{Fault, Why};
 use crate::number::{small, value};
-use rv_mem::{BadAddress, MapFault, PAGES_END, Rights, Room, Space, StoreFault, TextFault, Use};
+use rv_loops::below::{
+    BadAddress, MapFault, PAGES_END, Rights, Room, Space, StoreFault, TextFault, Use,
+};
 use std::alloc::{AllocError, Global};
 
 /// What an action answers.

@@ -3,7 +3,7 @@
 use crate::fault::{Fault, Why};
 use crate::number::{NAMES, small};
 use crate::state::{START, State};
-use rv_cpu::{Event, Held};
+use rv_loops::below::{Event, Held};
 use std::alloc::{AllocError, Global};
 
 /// What comes out.

@@ -4,8 +4,7 @@ use crate::fault::{Fault, Why};
 use crate::number::small;
 use crate::outcome::Outcome;
 use crate::state::{PAGE, START, State};
-use rv_cpu::{Event, run, step};
-use rv_mem::{Rights, Room, Space, Use};
+use rv_loops::below::{Event, Rights, Room, Space, Use, run, step};
 use std::alloc::Global;
 
 /// Where the page begins that can only be read, and where the one begins that can only be written. All

@@ -3,7 +3,7 @@
 use crate::fault::{Fault, Why};
 use crate::instruction::instruction;
 use crate::number::small;
-use rv_table::{encode, valid};
+use rv_loops::below::{encode, valid};
 use std::alloc::Global;
 
 /// The word of an instruction, or the one that stands behind `.word`.

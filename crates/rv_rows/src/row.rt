@@ -57,9 +57,8 @@ use crate::outcome::Outcome;
 use crate::played::Plan;
 use crate::program::code;
 use crate::state::{State, put};
-use rv_asm::Asm;
+use rv_loops::below::{Asm, decode, encode, valid};
 use rv_loops::{LoopOp, LoopRegs};
-use rv_table::{decode, encode, valid};
 use std::alloc::{AllocError, Global};
 
 const LOOP_REGS: LoopRegs = LoopRegs {

@@ -2,7 +2,7 @@
 
 use crate::fault::{Fault, Why};
 use crate::number::{register, value};
-use rv_cpu::{Held, Regs};
+use rv_loops::below::{Held, Regs};
 
 /// Where the page of the instructions begins.
 pub const START: u64 = 0x1000;

@@ -1,3 +1,4 @@
+pub use Rattle.pr_base.proofs as pr_base
 pub mod Formats
 pub mod Masks
 pub mod Matching

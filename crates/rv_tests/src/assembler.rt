@@ -1,5 +1,4 @@
-use rv_asm::{Asm, AsmFault};
-use rv_table::Instr;
+use rv_loops::below::{Asm, AsmFault, Instr};
 use std::test::Fail;
 
 // The bytes were written by clang and ld.lld 14 for this program, with its code at address 0:

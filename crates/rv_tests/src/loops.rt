@@ -1,14 +1,11 @@
 ghost use Rattle.std.specs.Prelude.{◌≡◌, ◌+◌, ◌≤◌, IsTrue, true, false};
-ghost use Rattle.rv_table.specs.Encoding.{IsValid};
-ghost use Rattle.rv_mem.specs.Pages.{allows_all, any_marked, bytes_from};
-ghost use Rattle.rv_asm.specs.Assembly.{word};
+ghost use Rattle.rv_loops.specs.rv_table.Encoding.{IsValid};
+ghost use Rattle.rv_loops.specs.rv_mem.Pages.{allows_all, any_marked, bytes_from};
+ghost use Rattle.rv_loops.specs.rv_asm.Assembly.{word};
 ghost use Rattle.rv_loops.specs.Loops.{CanPass};
 
-use rv_asm::Asm;
-use rv_cpu::{Event, Regs};
+use rv_loops::below::{Asm, Event, Instr, Regs, Rights, Room, Space, Use, encode};
 use rv_loops::{LoopOp, LoopRegs, put, turn};
-use rv_mem::{Rights, Room, Space, Use};
-use rv_table::{Instr, encode};
 use std::test::Fail;
 
 /// Where the doubleword lies on which the loop works.

@@ -1,4 +1,4 @@
-use rv_mem::{Rights, Room, Space, StoreFault, Use};
+use rv_loops::below::{Rights, Room, Space, StoreFault, Use};
 use std::process::Abort;
 use std::test::Fail;
 

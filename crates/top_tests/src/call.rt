@@ -1,8 +1,8 @@
 //! A call of the top call, and what came of it.
 
-use pr_base::{Bytes, NoMemory};
+use guests::below::{Bytes, NoMemory};
+use pr_call::below::{MemSink, MemSource};
 use pr_call::{Answer, Which, proot};
-use pr_io::{MemSink, MemSource};
 use std::alloc::Global;
 use std::test::Fail;
 

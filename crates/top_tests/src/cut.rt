@@ -3,7 +3,7 @@
 use crate::call::{Asked, Moving, call};
 use crate::home::{HOME, WORDS};
 use guests::HELLO;
-use kr_text::TreeWhy;
+use guests::below::TreeWhy;
 use pr_call::Answer;
 use std::test::Fail;
 

@@ -2,9 +2,7 @@
 
 use crate::call::{Asked, Moving, Told, call};
 use guests::HELLO;
-use kr_text::read;
-use kr_tree::{Tree, User};
-use pr_base::Bytes;
+use guests::below::{Bytes, Tree, User, read};
 use pr_call::Which;
 use pr_call::below::{End, Kept, Written, tell};
 use std::alloc::Global;

@@ -2,9 +2,8 @@
 //! format.
 
 use guests::DATA;
-use kr_text::{ListFault, TreeWhy, read, write};
-use kr_tree::{Ino, Meta, Node, ROOT, Tree, User, is_name};
-use pr_base::Bytes;
+use guests::below::{Ino, ListFault, Meta, Node, ROOT, Tree, TreeWhy, User, is_name, read, write};
+use pt_owner::below::pr_base::Bytes;
 use std::test::Fail;
 
 /// The *data* listing in order. Its program has the bytes of the ELF source.

@@ -1,7 +1,7 @@
 //! What calls on trees answer with ample memory. All of it was worked out by hand.
 
-use kr_tree::{Ino, Meta, Node, ROOT, Tree, TreeRefusal, is_name};
-use pr_base::{Bytes, NoMemory};
+use guests::below::{Ino, Meta, Node, ROOT, Tree, TreeRefusal, is_name};
+use pt_owner::below::pr_base::{Bytes, NoMemory};
 use std::test::Fail;
 
 const PLAIN: Meta = Meta {

@@ -1,9 +1,10 @@
 //! Walks over the host's own view, and small trees for them.
 
-use kr_tree::{Ino, Meta, Node, ROOT, Tree, User};
-use kr_view::{Host, HostMount, NoProcs, Place, Plain, Reach, Target, WalkFault};
+use kr_walk::below::{
+    Bytes, Errno, Host, HostMount, Ino, Last, Meta, NoMemory, NoProcs, Node, Place, Plain, ROOT,
+    Reach, Target, Tree, User, WalkFault, WalkMode,
+};
 use kr_walk::resolve;
-use pr_base::{Bytes, Errno, Last, NoMemory, WalkMode};
 use std::alloc::Global;
 
 const USER: User = User {
@@ -100,7 +101,7 @@ fn link(alloc: Global, text: &[u8]) -> Result<Node, NoMemory> {
 
 /// Adds a node where the tree takes it.
 fn put(tree: &mut Tree, dir: Ino, name: &[u8], node: Node, mode: u16) -> bool {
-    let fits = kr_tree::is_name(name)
+    let fits = kr_walk::below::is_name(name)
         && tree.takes_names(dir)
         && tree.entry(dir, name).is_none()
         && tree.next_number() < 1000

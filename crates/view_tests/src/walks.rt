@@ -1,12 +1,11 @@
 //! Walks over trees that are made name by name: in each mode and with each ending, and what they reach.
 
 use crate::walking::{Seen, linked_tree, nothing, walk_from};
-use kr_tree::laws::trees_are_kept;
-use kr_tree::{Ino, ROOT, Tree};
-use kr_view::laws::plain_stands;
-use kr_view::{HostMount, Plain, Reach};
+use kr_walk::below::{
+    Bytes, Errno, HostMount, Ino, Last, NoMemory, Plain, ROOT, Reach, Tree, WalkMode, plain_stands,
+    trees_are_kept,
+};
 use kr_walk::guest_name;
-use pr_base::{Bytes, Errno, Last, NoMemory, WalkMode};
 use std::alloc::Global;
 use std::test::Fail;
 

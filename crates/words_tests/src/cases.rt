@@ -1,5 +1,4 @@
-use kr_text::write;
-use kr_tree::{ROOT, Tree};
+use pr_gen::below::{ROOT, Tree, write};
 use pr_gen::case;
 use std::test::Fail;
 

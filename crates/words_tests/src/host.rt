@@ -1,11 +1,11 @@
 //! A machine that runs a probe and answers its calls from a list.
 
+use elf_load::below::check;
 use elf_load::{Image, load};
-use elf_read::check;
-use pr_base::{Bytes, Texts};
 use pr_gen::{ProbeStep, is_probe, probe};
-use rv_cpu::{Event, run};
-use rv_mem::{Regs, Room, Space, Use};
+use rv_cpu::below::pr_base::{Bytes, Texts};
+use rv_cpu::below::rv_mem::{Room, Space, Use};
+use rv_cpu::{Event, Regs, run};
 use std::process::Abort;
 use std::test::Fail;
 

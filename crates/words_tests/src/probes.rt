@@ -1,7 +1,7 @@
 use crate::host::{Done, Reply, run_probe};
-use pr_base::{Bytes, NoMemory, Texts};
 use pr_gen::{Arg, ProbeStep, Show, Who};
-use rv_mem::{Space, Use};
+use rv_cpu::below::pr_base::{Bytes, NoMemory, Texts};
+use rv_cpu::below::rv_mem::{Space, Use};
 use std::alloc::Global;
 use std::process::Abort;
 use std::test::Fail;

@@ -1,8 +1,8 @@
 //! Words and what they are read as, worked out by hand from the table of options. In a row a `|` parts two
 //! words.
 
-use pr_base::{Bind, NoMemory, Texts};
 use pr_words::{Options, Slot, Why, WordsFault, read};
+use rv_cpu::below::pr_base::{Bind, NoMemory, Texts};
 use std::alloc::Global;
 use std::test::Fail;
 

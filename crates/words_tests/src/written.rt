@@ -1,5 +1,5 @@
-use pr_base::{Bytes, Texts, field_u32};
 use pr_gen::{Arg, ProbeStep, Show, Who, is_probe, probe};
+use rv_cpu::below::pr_base::{Bytes, Texts, field_u32};
 use std::alloc::Global;
 use std::test::Fail;
 

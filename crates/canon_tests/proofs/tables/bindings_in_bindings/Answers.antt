@@ -1,7 +1,7 @@
 use Rattle.std.proofs.Common.{[], ◌∷◌, ◌∙◌, refl, subst, sym}
 use Rattle.std.specs.Prelude.{codes}
-use Rattle.pt_bind.specs.Binding.{AreBounds}
-use Rattle.pr_base.specs.declared.bind.Bound.{Bound}
+use Rattle.pt_results.specs.pt_bind.Binding.{AreBounds}
+use Rattle.pt_results.specs.pr_base.declared.bind.Bound.{Bound}
 use Rattle.canon_tests.proofs.SettledRows.{added, bounds_by_test, row}
 use Rattle.canon_tests.proofs.tables.bindings_in_bindings.Goals as goal
 

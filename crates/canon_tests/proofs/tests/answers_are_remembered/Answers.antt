@@ -1,6 +1,6 @@
 use Rattle.std.proofs.Common.{ap, subst, sym}
-use Rattle.pt_canon.specs.Remembering.{Agrees, Walking}
-use Rattle.pt_canon.proofs.RememberLemmas.{nothing_agrees}
+use Rattle.pt_results.specs.pt_canon.Remembering.{Agrees, Walking}
+use Rattle.pt_results.proofs.pt_canon.RememberLemmas.{nothing_agrees}
 use Rattle.canon_tests.proofs.tests.answers_are_remembered.Goals as goal
 
 pub canon-first-requires-clause-agrees : goal.canon-first-requires-clause-agrees

@@ -1,7 +1,7 @@
 use Rattle.std.proofs.Common.{◌∷◌, ◌++◌, [], ◌∙◌, ap}
 use Rattle.std.proofs.lemmas.List.{append_assoc}
 use Rattle.std.proofs.lemmas.List.Elements.{All-cons}
-use Rattle.pr_base.specs.Paths.{slash, IsPart}
+use Rattle.pt_results.specs.pr_base.Paths.{slash, IsPart}
 use Rattle.canon_tests.proofs.texts.is_text.Goals as goal
 
 pub loop-part-preserved : goal.loop-part-preserved

@@ -3,8 +3,8 @@ use Rattle.std.specs.Prelude.{IsSome}
 use Rattle.std.specs.Option.{option_map}
 use Rattle.kr_core.specs.kr_first.Starting.{directory_at}
 use Rattle.kr_core.specs.law_allowed.Texts.{IsText}
-use Rattle.kr_view.specs.Leads.{numbered}
-use Rattle.kr_view.specs.View.{plain}
+use Rattle.kr_core.specs.kr_view.Leads.{numbered}
+use Rattle.kr_core.specs.kr_view.View.{plain}
 use Rattle.core_tests.proofs.start.asked.Goals as goal
 
 pub returns-clause-text : goal.returns-clause-text

@@ -1,8 +1,8 @@
 use Rattle.std.proofs.Common.{◌∙◌, sym}
 use Rattle.std.proofs.lemmas.Result.{err_from_is_err_and}
-use Rattle.kr_view.specs.Answers.{target_numbered}
-use Rattle.kr_view.specs.Leads.{numbered}
-use Rattle.kr_view.specs.Walk.{surroundings}
+use Rattle.kr_walk.specs.kr_view.Answers.{target_numbered}
+use Rattle.kr_walk.specs.kr_view.Leads.{numbered}
+use Rattle.kr_walk.specs.kr_view.Walk.{surroundings}
 use Rattle.kr_exec.proofs.PlanLemmas.{any_reach, covers_exec, fits_both, lists_fit, reached_is}
 use Rattle.kr_exec.proofs.RunningLemmas.{at_start}
 use Rattle.kr_exec.proofs.plan.plan_exec.Goals as goal

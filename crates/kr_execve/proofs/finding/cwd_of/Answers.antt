@@ -1,6 +1,6 @@
 use Rattle.std.proofs.Common.{ap}
 use Rattle.std.specs.Option.{option_map}
-use Rattle.kr_seen.proofs.kr_ops.OpeningLemmas.{found, not-living}
+use Rattle.kr_perform.proofs.kr_ops.OpeningLemmas.{found, not-living}
 use Rattle.kr_execve.proofs.finding.cwd_of.Goals as goal
 
 pub unreachable-requires : goal.unreachable-requires

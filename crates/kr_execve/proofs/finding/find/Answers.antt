@@ -1,11 +1,11 @@
 use Rattle.std.proofs.Common.{refl, subst}
-use Rattle.kr_seen.specs.pr_base.declared.path.WalkMode.TheVariants.{Look}
+use Rattle.elf_load.specs.pr_base.declared.path.WalkMode.TheVariants.{Look}
 use Rattle.kr_exec.specs.Finding.{program_at, program_walk}
 use Rattle.kr_exec.specs.kr_view.Answers.{IsAnswer, IsReached}
 use Rattle.kr_exec.specs.kr_view.Leads.{numbered}
-use Rattle.kr_seen.specs.kr_ops.Meaning.{meaning}
-use Rattle.kr_seen.specs.Held.{shown_of}
-use Rattle.kr_seen.proofs.TargetLemmas.{around-told, shown-as}
+use Rattle.kr_perform.specs.kr_ops.Meaning.{meaning}
+use Rattle.kr_perform.specs.kr_seen.Held.{shown_of}
+use Rattle.kr_perform.proofs.kr_seen.TargetLemmas.{around-told, shown-as}
 use Rattle.kr_execve.proofs.finding.find.Goals as goal
 
 pub returns-clause-answer : goal.returns-clause-answer

@@ -3,9 +3,9 @@ use Rattle.kr_exec.specs.Answers.{Answers, Reaches, plan_numbered}
 use Rattle.kr_exec.specs.Exec.{exec_plan, exec_reach}
 use Rattle.kr_exec.specs.kr_view.Answers.{target_numbered}
 use Rattle.kr_exec.specs.kr_view.Leads.{numbered}
-use Rattle.kr_seen.specs.kr_ops.Meaning.{meaning}
-use Rattle.kr_seen.specs.Held.{shown_of}
-use Rattle.kr_seen.proofs.TargetLemmas.{around-told, shown-as}
+use Rattle.kr_perform.specs.kr_ops.Meaning.{meaning}
+use Rattle.kr_perform.specs.kr_seen.Held.{shown_of}
+use Rattle.kr_perform.proofs.kr_seen.TargetLemmas.{around-told, shown-as}
 use Rattle.kr_execve.proofs.finding.plan.Goals as goal
 
 pub returns-clause-answer : goal.returns-clause-answer

@@ -6,7 +6,7 @@ use Rattle.kr_perform.specs.kr_model.Applied.{Mounts, applied, images}
 use Rattle.kr_perform.specs.kr_model.Change.{CloseOnExec, OfFound, ReplaceExecutable}
 use Rattle.kr_perform.specs.kr_model.Lawful.{IsLawful}
 use Rattle.kr_perform.specs.kr_model.State.{Image, State, inode_of, process}
-use Rattle.kr_seen.specs.kr_ops.Meaning.{meaning}
+use Rattle.kr_perform.specs.kr_ops.Meaning.{meaning}
 use Rattle.kr_execve.proofs.PuttingLemmas.{executing-lawful, loaded-lawful, loaded-lives}
 use Rattle.kr_execve.proofs.loading.put.Goals as goal
 

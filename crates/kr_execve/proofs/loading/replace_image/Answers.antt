@@ -2,7 +2,7 @@ use Rattle.std.proofs.Common.{refl, ap, subst, ◌∙◌, arith}
 use Rattle.elf_load.specs.rv_mem.Memory.{Memory, page_count}
 use Rattle.elf_load.specs.rv_mem.Pages.{IsPlaced}
 use Rattle.elf_load.proofs.ImageLemmas.{nothing_left}
-use Rattle.kr_seen.proofs.kr_ops.OpeningLemmas.{not-living}
+use Rattle.kr_perform.proofs.kr_ops.OpeningLemmas.{not-living}
 use Rattle.kr_execve.proofs.LoadingLemmas.{can-load, has-room, loaded-means, loaded-served, loaded-within}
 use Rattle.kr_execve.proofs.loading.replace_image.Goals as goal
 

@@ -2,9 +2,9 @@ use Rattle.std.proofs.Common.{Option, sym, ap, ◌∙◌}
 use Rattle.std.specs.Option.{option_map_or}
 use Rattle.elf_load.specs.rv_mem.Memory.{Memory}
 use Rattle.kr_perform.specs.kr_model.State as model
-use Rattle.kr_seen.proofs.kr_ops.ListLemmas.{none-found}
-use Rattle.kr_seen.specs.Carrying.{no_memory}
-use Rattle.kr_seen.proofs.UsingLemmas.{memory-at}
+use Rattle.kr_perform.proofs.kr_ops.ListLemmas.{none-found}
+use Rattle.kr_perform.specs.kr_seen.Carrying.{no_memory}
+use Rattle.kr_perform.proofs.kr_seen.UsingLemmas.{memory-at}
 use Rattle.kr_execve.proofs.marks.marks_read.Goals as goal
 
 pub returns-in-Some : goal.returns-in-Some

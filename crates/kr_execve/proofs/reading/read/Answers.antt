@@ -2,7 +2,7 @@ use Rattle.std.proofs.Common.{Err, subst}
 use Rattle.kr_exec.specs.kr_calls.declared.fault.CallFault.{CallFault}
 use Rattle.kr_exec.specs.Lists.{Reads}
 use Rattle.kr_exec.specs.declared.lists.Lists.{Lists}
-use Rattle.kr_seen.proofs.kr_ops.OpeningLemmas.{not-living}
+use Rattle.kr_perform.proofs.kr_ops.OpeningLemmas.{not-living}
 use Rattle.kr_execve.specs.Executing.{lists_in}
 use Rattle.kr_execve.proofs.ReadingLemmas.{read-lists, read-refused}
 use Rattle.kr_execve.proofs.reading.read.Goals as goal

@@ -1,6 +1,6 @@
 use Rattle.std.proofs.Common.{ℕ, Err, sym, ap, subst, ◌∙◌}
 use Rattle.std.specs.Option.{option_and_then}
-use Rattle.pr_base.specs.declared.path.WalkMode.TheVariants.{Look}
+use Rattle.kr_start.specs.pr_base.declared.path.WalkMode.TheVariants.{Look}
 use Rattle.kr_start.specs.kr_tree.declared.place.Place.{Place}
 use Rattle.kr_execve.specs.kr_view.declared.target.Target.{Target}
 use Rattle.kr_execve.specs.kr_view.declared.target.WalkFault.{WalkFault}

@@ -1,6 +1,6 @@
 use Rattle.std.proofs.Common.{◌≡◌, true, sym, ap, subst, ◌∙◌}
 use Rattle.std.specs.Prelude.{Result}
-use Rattle.pr_base.specs.declared.errno.Errno.{Errno}
+use Rattle.kr_start.specs.pr_base.declared.errno.Errno.{Errno}
 use Rattle.kr_execve.specs.kr_exec.Answers.{plan_numbered, Answers}
 use Rattle.kr_execve.specs.kr_exec.Exec.{exec_reach}
 use Rattle.kr_execve.specs.kr_exec.declared.plan.ExecPlan.{ExecPlan}

@@ -1,5 +1,5 @@
 use Rattle.std.proofs.Common.{sym, subst, Ok}
-use Rattle.pr_base.specs.Peeks.{IsPeeked}
+use Rattle.kr_seen.specs.pr_base.Peeks.{IsPeeked}
 use Rattle.kr_seen.specs.kr_model.Peeks.{answer_along}
 use Rattle.kr_seen.specs.kr_ops.Meaning.{meaning}
 use Rattle.kr_hostview.specs.Peeking.{IsFound}

@@ -1,4 +1,4 @@
-use Rattle.pr_base.specs.declared.path.WalkMode.TheVariants.{LookLink}
+use Rattle.kr_seen.specs.pr_base.declared.path.WalkMode.TheVariants.{LookLink}
 use Rattle.kr_seen.specs.kr_view.Answers.{IsAnswer, IsReached}
 use Rattle.kr_seen.specs.kr_view.Leads.{numbered}
 use Rattle.kr_seen.specs.kr_view.Walk.{place_walk}

@@ -2,7 +2,7 @@ use Rattle.std.proofs.Common.{◌≤◌, ◌+◌, length, ap, arith, rules}
 use Rattle.std.proofs.lemmas.List.{length-reverse}
 use Rattle.pt_bind.specs.Binding.{names_of}
 use Rattle.pt_bind.proofs.ByteLemmas.{spelled_in_turn}
-use Rattle.kr_view.proofs.RestLemmas.{parts_fewer}
+use Rattle.kr_walk.proofs.kr_view.RestLemmas.{parts_fewer}
 use Rattle.kr_mounts.proofs.order.count.Goals as goal
 
 pub overflow_add-names : goal.overflow_add-names

@@ -1,4 +1,4 @@
-use Rattle.kr_view.specs.kr_inode.declared.node.Kind.TheVariants as kind
+use Rattle.kr_walk.specs.kr_inode.declared.node.Kind.TheVariants as kind
 use Rattle.kr_mounts.proofs.SourceLemmas.{kind_listed, none_listed}
 use Rattle.kr_mounts.proofs.passes.is_listed.Goals as goal
 

@@ -1,5 +1,5 @@
 use Rattle.std.proofs.Common.{List, All, Global, Vec, map, refl}
-use Rattle.kr_view.specs.View.{Row}
+use Rattle.kr_walk.specs.kr_view.View.{Row}
 use Rattle.pt_bind.specs.Binding.{IsWritten}
 use Rattle.kr_mounts.specs.Found.{HasTexts, located_told, source_told}
 use Rattle.kr_mounts.specs.MountTable.{Located, Sourced, located_all, locations, root_row, sources, told}

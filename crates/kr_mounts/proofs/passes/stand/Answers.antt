@@ -1,8 +1,8 @@
 use Rattle.std.proofs.Common.{◌≡◌, ◌∷◌, ◌++◌, [], List, All, map, arith, sym, ap, subst, ◌∙◌}
 use Rattle.std.specs.Vec.Iter.{into_iter_items}
 use Rattle.std.proofs.lemmas.List.Elements.{All-cons, All-head, All-nil, All-push, All-tail}
-use Rattle.kr_view.specs.kr_tree.Tree.{Tree}
-use Rattle.kr_view.specs.View.{Row}
+use Rattle.kr_walk.specs.kr_tree.Tree.{Tree}
+use Rattle.kr_walk.specs.kr_view.View.{Row}
 use Rattle.kr_mounts.specs.Bounds.{IsSpelled}
 use Rattle.kr_mounts.specs.Found.{HasTexts, located_told, source_told}
 use Rattle.kr_mounts.specs.Growth.{Same}

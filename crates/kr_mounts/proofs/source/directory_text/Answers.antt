@@ -1,4 +1,4 @@
-use Rattle.kr_view.specs.kr_tree.Names.{host_name}
+use Rattle.kr_walk.specs.kr_tree.Names.{host_name}
 use Rattle.kr_mounts.proofs.SourceLemmas.{text_told}
 use Rattle.kr_mounts.proofs.source.directory_text.Goals as goal
 

@@ -2,8 +2,8 @@ use Rattle.std.proofs.Common.{◌≡◌, Option, Some, sym, ap, subst, ◌∙◌
 use Rattle.std.specs.Prelude.{IfOk}
 use Rattle.std.specs.Option.{option_map}
 use Rattle.pt_bind.specs.pr_base.Paths.{IsPart}
-use Rattle.kr_view.specs.kr_tree.declared.place.Place.{Place}
-use Rattle.kr_view.specs.declared.view.HostMount.{HostMount}
+use Rattle.kr_walk.specs.kr_tree.declared.place.Place.{Place}
+use Rattle.kr_walk.specs.kr_view.declared.view.HostMount.{HostMount}
 use Rattle.kr_mounts.specs.Found.{source_told}
 use Rattle.kr_mounts.specs.Sources.{Source, source_at}
 use Rattle.kr_mounts.specs.declared.source.Found.{Found}

@@ -2,11 +2,11 @@ use Rattle.std.proofs.Common.{◌≡◌, ℕ, Option, None, Ok, sym, ap, subst}
 use Rattle.std.specs.Prelude.{IfOk}
 use Rattle.std.specs.Option.{option_map}
 use Rattle.pt_bind.specs.pr_base.declared.path.WalkMode.TheVariants.{Look}
-use Rattle.kr_view.specs.kr_tree.declared.place.Place.{Place}
-use Rattle.kr_view.specs.Answers.{IsAnswer}
-use Rattle.kr_view.specs.View.{plain, root_place}
-use Rattle.kr_view.specs.Walk.{place_walk}
-use Rattle.kr_view.specs.declared.view.HostMount.{HostMount}
+use Rattle.kr_walk.specs.kr_tree.declared.place.Place.{Place}
+use Rattle.kr_walk.specs.kr_view.Answers.{IsAnswer}
+use Rattle.kr_walk.specs.kr_view.View.{plain, root_place}
+use Rattle.kr_walk.specs.kr_view.Walk.{place_walk}
+use Rattle.kr_walk.specs.kr_view.declared.view.HostMount.{HostMount}
 use Rattle.kr_mounts.specs.Found.{source_told}
 use Rattle.kr_mounts.specs.Sources.{Source, around_table, source_of}
 use Rattle.kr_mounts.specs.declared.source.Found.{Found}

@@ -1,7 +1,7 @@
 use Rattle.std.proofs.Common.{sym, subst, w32}
 use Rattle.std.proofs.Math.Facts.{to_z-of_z}
 use Rattle.law_allowed.specs.kr_calls.declared.request.Request.TheVariants as call
-use Rattle.kr_seen.specs.PerformedRows.{Performs}
+use Rattle.kr_transfer.specs.kr_seen.PerformedRows.{Performs}
 use Rattle.law_allowed.specs.kr_model.AttributeRows.{newfstatat_here}
 use Rattle.kr_perform.specs.Operating.{OperatesAt}
 use Rattle.kr_perform.proofs.OperatingLemmas.{at-mounts, has-bytes, has-none}

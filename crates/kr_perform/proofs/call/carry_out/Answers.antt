@@ -1,9 +1,9 @@
 use Rattle.std.proofs.Common.{rules, lit<, Err, subst}
 use Rattle.law_allowed.specs.kr_view.declared.target.WalkFault.{WalkFault}
 use Rattle.law_allowed.specs.kr_model.Walks.{targets_of}
-use Rattle.kr_seen.specs.kr_ops.Meaning.{meaning}
-use Rattle.kr_seen.specs.Numbered.{state_numbered}
-use Rattle.kr_seen.specs.CallWalks.{AreTargets}
+use Rattle.kr_rows.specs.kr_ops.Meaning.{meaning}
+use Rattle.kr_transfer.specs.kr_seen.Numbered.{state_numbered}
+use Rattle.kr_transfer.specs.kr_seen.CallWalks.{AreTargets}
 use Rattle.kr_perform.proofs.CallLemmas.{refused-call, runs-later}
 use Rattle.kr_perform.proofs.call.carry_out.Goals as goal
 

@@ -1,7 +1,7 @@
 use Rattle.std.proofs.Common.{lit<}
 use Rattle.law_allowed.specs.kr_model.State as model
 use Rattle.law_allowed.proofs.law_lawful.AfterLemmas.{some-of}
-use Rattle.kr_seen.specs.kr_ops.Meaning.{meaning}
+use Rattle.kr_rows.specs.kr_ops.Meaning.{meaning}
 use Rattle.kr_perform.proofs.WalkedLemmas.{performed-last, walks_resolve, resolved_are_told}
 use Rattle.kr_perform.proofs.CallLemmas.{are-texts, called, has-numbers}
 use Rattle.kr_perform.proofs.call.carry_out_along.Goals as goal

@@ -3,9 +3,9 @@ use Rattle.std.proofs.lemmas.Option.{none-some}
 use Rattle.law_allowed.proofs.kr_tree.NameLemmas.{some_is}
 use Rattle.law_allowed.specs.kr_model.State.{Image, Process}
 use Rattle.law_allowed.specs.Allowed.{HoldsBytes}
-use Rattle.kr_seen.specs.kr_ops.Meaning.{process_meaning}
-use Rattle.kr_seen.proofs.kr_ops.ListLemmas.{none-found}
-use Rattle.kr_seen.proofs.kr_ops.OpeningLemmas.{found}
+use Rattle.kr_rows.specs.kr_ops.Meaning.{process_meaning}
+use Rattle.kr_rows.proofs.kr_ops.ListLemmas.{none-found}
+use Rattle.kr_rows.proofs.kr_ops.OpeningLemmas.{found}
 use Rattle.kr_perform.proofs.call.memory_holds_bytes.Goals as goal
 
 pub returns-in-Some : goal.returns-in-Some

@@ -1,5 +1,5 @@
 use Rattle.std.proofs.Common.{◌≡◌, subst, rules, w32, w64, to_z, of_z}
-use Rattle.kr_seen.specs.PerformedRows.{Performs}
+use Rattle.kr_transfer.specs.kr_seen.PerformedRows.{Performs}
 use Rattle.law_allowed.specs.kr_model.AttributeRows.{fchmod_row, fchown_row, fstat_row}
 use Rattle.law_allowed.specs.kr_model.DescriptorRows.{dup_row, dup3_row, fcntl_row, ioctl_row, close_row, lseek_row}
 use Rattle.law_allowed.specs.kr_model.DirectoryRows.{fchdir_row, getdents64_row}

@@ -1,8 +1,8 @@
 use Rattle.std.proofs.Common.{◌≡◌, lit<, inl, inr, subst, ◌∙◌, rules, w32, to_z, of_z}
-use Rattle.kr_seen.specs.PerformedRows.{Performs}
+use Rattle.kr_transfer.specs.kr_seen.PerformedRows.{Performs}
 use Rattle.law_allowed.specs.kr_model.IdentityRows.{getgroups_row}
 use Rattle.law_allowed.specs.kr_model.ProcessRows.{exit_row, wait4_row}
-use Rattle.kr_seen.specs.kr_ops.Meaning.{meaning}
+use Rattle.kr_rows.specs.kr_ops.Meaning.{meaning}
 use Rattle.kr_perform.proofs.OperatingLemmas.{alone, breaks-within}
 use Rattle.kr_perform.proofs.processes.perform.Goals.{in-Exit, in-Exit-2}
 use Rattle.kr_perform.proofs.processes.perform.Goals as goal

@@ -1,6 +1,6 @@
 use Rattle.std.proofs.Common.{sym, ap, subst, ◌∙◌}
 use Rattle.std.specs.Bool.{if◌then◌else◌}
-use Rattle.pr_base.specs.declared.errno.Errno.TheVariants.{ENOENT, EACCES}
+use Rattle.kr_ops.specs.pr_base.declared.errno.Errno.TheVariants.{ENOENT, EACCES}
 use Rattle.kr_ops.specs.kr_tree.declared.place.Host.{Host}
 use Rattle.kr_ops.specs.kr_model.Asking.{writable}
 use Rattle.kr_ops.specs.kr_model.Known.{known}

@@ -1,5 +1,5 @@
 use Rattle.std.proofs.Common.{Err, refl, ap, ◌∙◌, []}
-use Rattle.pr_base.specs.declared.errno.Errno.TheVariants.{EFAULT}
+use Rattle.kr_ops.specs.pr_base.declared.errno.Errno.TheVariants.{EFAULT}
 use Rattle.kr_ops.specs.kr_model.Reply.{done, refuse}
 use Rattle.kr_seen.proofs.UsingLemmas.{begins, refused-after, unwritable}
 use Rattle.kr_seen.proofs.caller.tell.Goals as goal

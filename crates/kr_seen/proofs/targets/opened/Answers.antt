@@ -4,7 +4,7 @@ use Rattle.kr_ops.specs.kr_model.Walks.{looked_at}
 use Rattle.kr_ops.specs.Meaning.{meaning}
 use Rattle.kr_seen.specs.Numbered.{state_numbered}
 use Rattle.kr_ops.specs.kr_view.Leads.{numbered}
-use Rattle.pr_base.specs.declared.errno.Errno.TheVariants.{ENOENT}
+use Rattle.kr_ops.specs.pr_base.declared.errno.Errno.TheVariants.{ENOENT}
 use Rattle.std.specs.Option.{option_map, option_map_or}
 use Rattle.kr_seen.specs.Placed.{placed_in}
 use Rattle.kr_seen.proofs.TakenLemmas.{opened-new, opened-found}

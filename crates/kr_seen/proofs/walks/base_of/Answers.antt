@@ -1,7 +1,7 @@
 use Rattle.std.proofs.Common.{sym, ap, ◌∙◌, subst, w32}
 use Rattle.std.proofs.Math.Facts.{to_z-of_z}
 use Rattle.std.specs.Prelude.{Some}
-use Rattle.pr_base.specs.Paths.{is_absolute}
+use Rattle.kr_ops.specs.pr_base.Paths.{is_absolute}
 use Rattle.kr_ops.specs.kr_calls.PathTable.{path_use}
 use Rattle.kr_ops.specs.kr_model.Asking.{descriptor_number, is_working_directory}
 use Rattle.kr_ops.specs.Meaning.{meaning}

@@ -1,6 +1,6 @@
 use Rattle.std.proofs.Common.{◌≤◌, ◌∙◌, List, ap, length, sym, subst, arith}
 use Rattle.std.proofs.lemmas.Bool.Decides.{nat_tests}
-use Rattle.pt_bind.specs.Binding.{rows_of}
+use Rattle.law_walks.specs.pt_bind.Binding.{rows_of}
 use Rattle.law_walks.specs.kr_mounts.Standing.{texts_of}
 use Rattle.law_walks.specs.kr_mounts.Stored.{table_of}
 use Rattle.law_walks.specs.kr_mounts.declared.mount.Mount.{Mount}

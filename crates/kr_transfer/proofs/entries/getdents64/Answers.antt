@@ -1,7 +1,7 @@
 use Rattle.std.proofs.Common.{◌≡◌, ℕ, refl, sym, ap, subst, ◌∙◌, w32}
 use Rattle.std.proofs.Math.Facts.{to_z-of_z}
 use Rattle.std.specs.Option.{option_map_or}
-use Rattle.kr_inode.specs.pr_base.declared.errno.Errno.TheVariants.{ENOTDIR}
+use Rattle.kr_seen.specs.pr_base.declared.errno.Errno.TheVariants.{ENOTDIR}
 use Rattle.kr_seen.specs.kr_model.Asking.{or_badf}
 use Rattle.kr_seen.specs.kr_model.DirectoryRows.{list_host, or_zero}
 use Rattle.kr_seen.specs.kr_model.Known.{known}

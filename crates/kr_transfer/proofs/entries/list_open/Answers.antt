@@ -1,6 +1,6 @@
 use Rattle.std.proofs.Common.{refl}
 use Rattle.std.specs.Option.{option_map_or}
-use Rattle.kr_inode.specs.pr_base.declared.errno.Errno.TheVariants.{ENOTDIR}
+use Rattle.kr_seen.specs.pr_base.declared.errno.Errno.TheVariants.{ENOTDIR}
 use Rattle.kr_seen.specs.kr_model.DirectoryRows.{list_host}
 use Rattle.kr_seen.specs.kr_model.Known.{known}
 use Rattle.kr_seen.specs.kr_model.Reply.{refuse}

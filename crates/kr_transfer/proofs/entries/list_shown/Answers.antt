@@ -1,6 +1,6 @@
 use Rattle.std.proofs.Common.{◌≡◌, ◌<◌, ◌≤◌, Option, Some, length, arith, refl, sym, ap, ◌∙◌, [], ◌∷◌}
 use Rattle.std.specs.Option.{option_map}
-use Rattle.kr_inode.specs.pr_base.declared.errno.Errno.TheVariants.{EFAULT, EINVAL}
+use Rattle.kr_seen.specs.pr_base.declared.errno.Errno.TheVariants.{EFAULT, EINVAL}
 use Rattle.kr_seen.specs.rv_mem.Actions.{write_if_allowed}
 use Rattle.kr_seen.specs.kr_calls.DirectoryEntries.{record_length}
 use Rattle.kr_seen.specs.kr_model.Change.{Seek}

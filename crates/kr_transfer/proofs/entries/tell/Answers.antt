@@ -1,5 +1,5 @@
 use Rattle.std.proofs.Common.{Err, length, pos, sym, ap, ◌∙◌, [], ◌∷◌}
-use Rattle.kr_inode.specs.pr_base.declared.errno.Errno.TheVariants.{EFAULT}
+use Rattle.kr_seen.specs.pr_base.declared.errno.Errno.TheVariants.{EFAULT}
 use Rattle.kr_seen.specs.rv_mem.Actions.{write_if_allowed}
 use Rattle.kr_seen.specs.kr_model.Change.{Seek}
 use Rattle.kr_seen.specs.kr_model.Reply.{Replying, answers, done, refuse}

@@ -1,5 +1,5 @@
 use Rattle.std.proofs.Common.{◌≡◌, ◌≤◌, ◌<◌, ◌*◌, List, arith, min, length, sym, ap, subst, ◌∙◌}
-use Rattle.kr_inode.specs.pr_base.declared.errno.Errno.TheVariants.{EINVAL}
+use Rattle.kr_seen.specs.pr_base.declared.errno.Errno.TheVariants.{EINVAL}
 use Rattle.kr_seen.proofs.rv_mem.PagesLemmas.{length-bytes_from}
 use Rattle.kr_seen.specs.kr_model.Pieces.{asked, cut_to, pieces_of, with_list}
 use Rattle.kr_seen.specs.kr_model.Reply.{refuse}

@@ -1,6 +1,6 @@
 use Rattle.std.proofs.Common.{refl, sym, ap, ◌∙◌, [], ◌∷◌}
 use Rattle.std.specs.Prelude.{not, if◌then◌else◌}
-use Rattle.kr_inode.specs.pr_base.declared.errno.Errno.TheVariants.{EBADF, EISDIR}
+use Rattle.kr_seen.specs.pr_base.declared.errno.Errno.TheVariants.{EBADF, EISDIR}
 use Rattle.kr_seen.specs.kr_model.FileRows.{is_dir, read_pieces}
 use Rattle.kr_seen.specs.kr_model.Known.{known}
 use Rattle.kr_seen.specs.kr_model.Pieces.{one_piece}

@@ -1,5 +1,5 @@
 use Rattle.std.proofs.Common.{refl, sym, ◌∙◌, []}
-use Rattle.kr_inode.specs.pr_base.declared.errno.Errno.TheVariants.{EBADF, EISDIR}
+use Rattle.kr_seen.specs.pr_base.declared.errno.Errno.TheVariants.{EBADF, EISDIR}
 use Rattle.kr_seen.specs.kr_files.declared.opened.What.TheVariants.{File, Dir, In, Out, Err, PipeRead, PipeWrite}
 use Rattle.kr_seen.specs.kr_model.FileRows.{read_file, read_input, read_pieces, read_pipe}
 use Rattle.kr_seen.specs.kr_model.Known.{known}

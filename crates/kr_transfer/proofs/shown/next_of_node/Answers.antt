@@ -5,7 +5,7 @@ use Rattle.kr_seen.specs.kr_model.State.{image_layout}
 use Rattle.kr_seen.specs.kr_ops.Meaning.{meaning}
 use Rattle.std.specs.Option.{option_map}
 use Rattle.std.proofs.Common.{Option}
-use Rattle.kr_inode.specs.pr_base.declared.memory.NoMemory.{NoMemory}
+use Rattle.kr_seen.specs.pr_base.declared.memory.NoMemory.{NoMemory}
 use Rattle.kr_seen.specs.kr_tree.declared.place.Host.TheVariants.{Node}
 use Rattle.kr_transfer.specs.declared.listing.Listed.{Listed}
 use Rattle.kr_transfer.specs.Listing.{all_shown, first_behind, or_else, told_entry}

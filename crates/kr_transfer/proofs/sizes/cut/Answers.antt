@@ -1,7 +1,7 @@
 use Rattle.std.proofs.Common.{◌≡◌, true, false, refl, sym, ap, subst, ◌∙◌, [], ◌∷◌, Err, lit<}
 use Rattle.std.specs.Prelude.{◌&&◌, not}
 use Rattle.std.proofs.lemmas.Bool.{and_parts, cond-true, false_from_ne_true}
-use Rattle.kr_inode.specs.pr_base.declared.errno.Errno.TheVariants.{EINVAL, EFBIG, ENOSPC}
+use Rattle.kr_seen.specs.pr_base.declared.errno.Errno.TheVariants.{EINVAL, EFBIG, ENOSPC}
 use Rattle.kr_seen.specs.kr_tree.Tree.{body_is, is_file}
 use Rattle.kr_seen.specs.kr_tree.Changes.{has_no_room_for, is_past_file}
 use Rattle.kr_seen.specs.kr_model.Applied.{applied, images}

@@ -1,7 +1,7 @@
 use Rattle.std.proofs.Common.{◌≡◌, ◌+◌, true, sym, ap, subst, ◌∙◌, [], ◌∷◌, Err, lit<, length}
 use Rattle.std.specs.Prelude.{◌&&◌, not}
 use Rattle.std.proofs.lemmas.Bool.{false_from_ne_true}
-use Rattle.kr_inode.specs.pr_base.declared.errno.Errno.TheVariants.{ENOSPC}
+use Rattle.kr_seen.specs.pr_base.declared.errno.Errno.TheVariants.{ENOSPC}
 use Rattle.kr_seen.specs.kr_tree.Tree.{body_is, is_file}
 use Rattle.kr_seen.specs.kr_tree.Changes.{has_no_room_for, is_past_file, size, size_written}
 use Rattle.kr_seen.specs.kr_model.Applied.{applied, images}

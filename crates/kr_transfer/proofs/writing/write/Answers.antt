@@ -1,7 +1,7 @@
 use Rattle.std.proofs.Common.{lit<, refl, sym, ap, ◌∙◌, w32}
 use Rattle.std.specs.Prelude.{not, if◌then◌else◌}
 use Rattle.std.proofs.Math.Facts.{to_z-of_z}
-use Rattle.kr_inode.specs.pr_base.declared.errno.Errno.TheVariants.{EBADF, EISDIR}
+use Rattle.kr_seen.specs.pr_base.declared.errno.Errno.TheVariants.{EBADF, EISDIR}
 use Rattle.kr_seen.specs.kr_model.FileRows.{is_dir, write_pieces}
 use Rattle.kr_seen.specs.kr_model.Known.{known}
 use Rattle.kr_seen.specs.kr_model.Pieces.{one_piece}

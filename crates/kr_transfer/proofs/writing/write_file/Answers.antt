@@ -1,5 +1,5 @@
 use Rattle.std.proofs.Common.{◌+◌, ◌-◌, ◌<◌, ◌≤◌, lit<, arith, refl, sym, ap, subst, ◌∙◌, length}
-use Rattle.kr_inode.specs.pr_base.declared.errno.Errno.TheVariants.{EFBIG}
+use Rattle.kr_seen.specs.pr_base.declared.errno.Errno.TheVariants.{EFBIG}
 use Rattle.kr_seen.specs.rv_mem.declared.rights.Use.TheVariants.{Read}
 use Rattle.kr_seen.specs.kr_tree.Changes.{file_limit}
 use Rattle.kr_seen.specs.kr_model.FileRows.{put_in_file, write_file, write_place}

@@ -1,5 +1,5 @@
 use Rattle.std.proofs.Common.{lit<, arith, true, false, refl, sym, ◌∙◌, []}
-use Rattle.kr_inode.specs.pr_base.declared.errno.Errno.TheVariants.{EBADF, EFAULT, EISDIR}
+use Rattle.kr_seen.specs.pr_base.declared.errno.Errno.TheVariants.{EBADF, EFAULT, EISDIR}
 use Rattle.kr_seen.specs.rv_mem.declared.rights.Use.TheVariants.{Read}
 use Rattle.kr_seen.specs.kr_files.declared.opened.What.TheVariants.{File, Dir, In, Out, Err, PipeRead, PipeWrite}
 use Rattle.kr_seen.specs.kr_model.FileRows.{write_file, write_pieces, write_pipe, write_place, write_what}

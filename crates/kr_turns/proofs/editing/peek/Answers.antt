@@ -3,9 +3,9 @@ use Rattle.std.specs.Prelude.{IsOk, IsTrue, OnOk, ◌↔◌}
 use Rattle.std.proofs.lemmas.Result.{on_ok_weaker}
 use Rattle.kr_steps.specs.rv_mem.Memory.{Memory, after_read}
 use Rattle.kr_steps.specs.rv_mem.Pages.{allows_all, bytes_from}
-use Rattle.kr_seen.specs.kr_model.State.{Image}
-use Rattle.kr_seen.specs.kr_ops.Meaning.{meaning}
-use Rattle.kr_seen.proofs.kr_ops.OpeningLemmas.{not-living}
+use Rattle.law_steady.specs.kr_model.State.{Image}
+use Rattle.kr_hostview.specs.kr_ops.Meaning.{meaning}
+use Rattle.kr_hostview.proofs.kr_ops.OpeningLemmas.{not-living}
 use Rattle.kr_steps.proofs.ComputingLemmas.{changed_at}
 use Rattle.kr_turns.proofs.EditingLemmas.{becomes, image-here, on-err, read-like, runs-on, same-here}
 use Rattle.kr_turns.proofs.editing.peek.Goals as goal

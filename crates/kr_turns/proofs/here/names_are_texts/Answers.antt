@@ -1,4 +1,4 @@
-use Rattle.kr_seen.specs.kr_ops.Meaning.{meaning}
+use Rattle.kr_hostview.specs.kr_ops.Meaning.{meaning}
 use Rattle.kr_hostview.proofs.LawLemmas.{lawful-on-host}
 use Rattle.kr_turns.proofs.here.names_are_texts.Goals as goal
 

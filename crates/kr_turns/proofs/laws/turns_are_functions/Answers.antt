@@ -1,5 +1,5 @@
 use Rattle.kr_turns.proofs.JoinLemmas.{turns-are-functions}
-use Rattle.kr_stops.specs.Watching.{watching}
+use Rattle.kr_steps.specs.kr_stops.Watching.{watching}
 use Rattle.kr_turns.proofs.laws.turns_are_functions.Goals as goal
 
 pub returns : goal.returns

@@ -1,5 +1,5 @@
 use Rattle.kr_turns.proofs.StepLemmas.{watched-calls-are-three-steps}
-use Rattle.kr_stops.specs.Watching.{watching}
+use Rattle.kr_steps.specs.kr_stops.Watching.{watching}
 use Rattle.kr_turns.proofs.laws.watched_calls_are_three_steps.Goals as goal
 
 pub returns : goal.returns

@@ -1,8 +1,8 @@
 use Rattle.std.proofs.Common.{sym, ap, ◌∙◌}
-use Rattle.kr_seen.specs.kr_model.Known.{Known}
-use Rattle.kr_seen.specs.kr_model.State.{image_layout}
-use Rattle.kr_seen.specs.kr_ops.Meaning.{meaning}
-use Rattle.kr_seen.proofs.LookLemmas.{known-numbered}
+use Rattle.law_steady.specs.kr_model.Known.{Known}
+use Rattle.law_steady.specs.kr_model.State.{image_layout}
+use Rattle.kr_hostview.specs.kr_ops.Meaning.{meaning}
+use Rattle.kr_calm.proofs.kr_seen.LookLemmas.{known-numbered}
 use Rattle.kr_turns.specs.Target.{target_of}
 use Rattle.kr_turns.proofs.plain.handed_on.Goals as goal
 

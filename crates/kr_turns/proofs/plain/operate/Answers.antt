@@ -2,12 +2,12 @@ use Rattle.std.proofs.Common.{lit<, Err, sym, ap, subst, false, None, ◌||◌, 
 use Rattle.kr_steps.specs.rv_mem.Memory.{Memory}
 use Rattle.kr_execve.specs.kr_view.declared.target.Reach.{Reach}
 use Rattle.kr_execve.specs.kr_view.declared.target.WalkFault.{WalkFault}
-use Rattle.kr_seen.specs.kr_model.Walks.{targets_of}
-use Rattle.kr_seen.specs.kr_ops.Meaning.{meaning}
-use Rattle.kr_seen.proofs.kr_ops.UseLemmas.{sound-of}
-use Rattle.kr_seen.specs.Numbered.{state_numbered}
-use Rattle.kr_seen.specs.CallWalks.{AreTargets, IsReachedTo, call_reach}
-use Rattle.kr_seen.specs.declared.walks.Targets.{Targets}
+use Rattle.law_steady.specs.kr_model.Walks.{targets_of}
+use Rattle.kr_hostview.specs.kr_ops.Meaning.{meaning}
+use Rattle.kr_hostview.proofs.kr_ops.UseLemmas.{sound-of}
+use Rattle.kr_calm.specs.kr_seen.Numbered.{state_numbered}
+use Rattle.kr_calm.specs.kr_seen.CallWalks.{AreTargets, IsReachedTo, call_reach}
+use Rattle.kr_calm.specs.kr_seen.declared.walks.Targets.{Targets}
 use Rattle.kr_steps.specs.Calls.{MayCall}
 use Rattle.kr_steps.proofs.ComputingLemmas.{runs-later}
 use Rattle.kr_turns.specs.Breaking.{nothing_reached, rule_told}

@@ -1,9 +1,9 @@
 use Rattle.std.proofs.Common.{lit<, Ok, Err, ap, subst, ◌∙◌}
 use Rattle.std.proofs.lemmas.Result.{on_ok_weaker}
 use Rattle.kr_execve.specs.kr_calls.declared.fault.CallFault.{CallFault}
-use Rattle.kr_seen.specs.kr_ops.Meaning.{meaning}
-use Rattle.kr_seen.proofs.kr_ops.UseLemmas.{sound-of}
-use Rattle.kr_seen.specs.Numbered.{state_numbered}
+use Rattle.kr_hostview.specs.kr_ops.Meaning.{meaning}
+use Rattle.kr_hostview.proofs.kr_ops.UseLemmas.{sound-of}
+use Rattle.kr_calm.specs.kr_seen.Numbered.{state_numbered}
 use Rattle.kr_steps.specs.Calls.{MayCall}
 use Rattle.kr_steps.proofs.ComputingLemmas.{runs-later}
 use Rattle.kr_steps.specs.Computing.{Requests}

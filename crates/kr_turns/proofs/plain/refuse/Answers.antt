@@ -1,8 +1,8 @@
 use Rattle.std.proofs.Common.{◌≡◌, None, refl, rules, ap, ◌∙◌, to_z, of_z, w64, ◌-ℤ◌, neg_ℤ, pos}
 use Rattle.kr_hostview.specs.pr_base.Errno.{errno_number}
-use Rattle.kr_seen.specs.kr_ops.Meaning.{meaning}
+use Rattle.kr_hostview.specs.kr_ops.Meaning.{meaning}
 use Rattle.kr_steps.specs.Answering.{answered}
-use Rattle.kr_stops.specs.Stopped.{nothing_handed}
+use Rattle.kr_steps.specs.kr_stops.Stopped.{nothing_handed}
 use Rattle.kr_turns.specs.declared.plain.CallEnd.TheVariants as end
 use Rattle.kr_turns.proofs.PlainLemmas.{refused}
 use Rattle.kr_turns.proofs.plain.refuse.Goals as goal

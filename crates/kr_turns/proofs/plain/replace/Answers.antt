@@ -1,10 +1,10 @@
 use Rattle.std.proofs.Common.{None, lit<, refl, sym, ap, ◌∙◌}
-use Rattle.kr_seen.specs.kr_ops.Meaning.{meaning}
-use Rattle.kr_seen.proofs.kr_ops.UseLemmas.{sound-of}
-use Rattle.kr_seen.specs.Numbered.{state_numbered}
+use Rattle.kr_hostview.specs.kr_ops.Meaning.{meaning}
+use Rattle.kr_hostview.proofs.kr_ops.UseLemmas.{sound-of}
+use Rattle.kr_calm.specs.kr_seen.Numbered.{state_numbered}
 use Rattle.kr_execve.specs.Execution.{execution_reach}
 use Rattle.kr_turns.specs.Breaking.{nothing_reached}
-use Rattle.kr_stops.specs.Stopped.{nothing_handed}
+use Rattle.kr_steps.specs.kr_stops.Stopped.{nothing_handed}
 use Rattle.kr_turns.specs.declared.plain.CallEnd.TheVariants as end
 use Rattle.kr_turns.proofs.NumberLemmas.{memory-numbered}
 use Rattle.kr_turns.proofs.PlainLemmas.{execution-left, refused-now, refused-rule, replaced-now, replaced-rule}

@@ -1,4 +1,4 @@
-use Rattle.kr_seen.proofs.kr_ops.ListLemmas.{none-found}
+use Rattle.kr_hostview.proofs.kr_ops.ListLemmas.{none-found}
 use Rattle.kr_turns.proofs.MakingLemmas.{behind-none, behind-some, found-lives}
 use Rattle.kr_turns.proofs.steps.behind_if.Goals as goal
 

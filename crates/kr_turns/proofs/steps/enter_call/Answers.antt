@@ -1,9 +1,9 @@
 use Rattle.std.proofs.Common.{lit<}
 use Rattle.kr_calm.specs.Shelf.{shelved_by}
-use Rattle.kr_seen.specs.Numbered.{state_numbered}
-use Rattle.kr_seen.specs.kr_ops.Meaning.{meaning}
-use Rattle.kr_stops.specs.Stopped.{image_in, nothing_handed}
-use Rattle.kr_stops.specs.Watching.{watching}
+use Rattle.kr_calm.specs.kr_seen.Numbered.{state_numbered}
+use Rattle.kr_hostview.specs.kr_ops.Meaning.{meaning}
+use Rattle.kr_steps.specs.kr_stops.Stopped.{image_in, nothing_handed}
+use Rattle.kr_steps.specs.kr_stops.Watching.{watching}
 use Rattle.kr_turns.specs.Held.{stopped_in}
 use Rattle.kr_turns.proofs.AgreeLemmas.{agrees-now}
 use Rattle.kr_turns.proofs.ApartLemmas.{computed-leaves, edited-leaves, leaves-then}

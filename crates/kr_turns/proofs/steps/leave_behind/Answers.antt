@@ -1,5 +1,5 @@
 use Rattle.std.proofs.Common.{Some, refl, subst, sym}
-use Rattle.kr_stops.specs.Watching.{watching}
+use Rattle.kr_steps.specs.kr_stops.Watching.{watching}
 use Rattle.kr_turns.specs.CallSteps.{IsCarriedBy}
 use Rattle.kr_turns.specs.Coming.{came_to}
 use Rattle.kr_turns.specs.Making.{ended_with, machine_of}

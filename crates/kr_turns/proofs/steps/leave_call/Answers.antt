@@ -1,6 +1,6 @@
 use Rattle.std.proofs.Common.{lit<}
 use Rattle.std.proofs.lemmas.Result.{on_ok_weaker}
-use Rattle.kr_stops.specs.Watching.{watching}
+use Rattle.kr_steps.specs.kr_stops.Watching.{watching}
 use Rattle.kr_turns.specs.Held.{stopped_in}
 use Rattle.kr_turns.proofs.ApartLemmas.{edited-leaves}
 use Rattle.kr_turns.proofs.MakingLemmas.{exit-made, whatever}

@@ -1,10 +1,10 @@
 use Rattle.std.proofs.Common.{◌≡◌, None, ap, lit<, subst, sym, ◌∙◌}
 use Rattle.kr_steps.specs.Calls.{MayCall}
-use Rattle.kr_seen.specs.Numbered.{state_numbered}
-use Rattle.kr_seen.specs.kr_ops.Meaning.{meaning}
-use Rattle.kr_seen.proofs.kr_ops.UseLemmas.{sound-of}
-use Rattle.kr_stops.specs.Remembering.{can_alter_shape}
-use Rattle.kr_stops.specs.Watching.{watching}
+use Rattle.kr_calm.specs.kr_seen.Numbered.{state_numbered}
+use Rattle.kr_hostview.specs.kr_ops.Meaning.{meaning}
+use Rattle.kr_hostview.proofs.kr_ops.UseLemmas.{sound-of}
+use Rattle.kr_steps.specs.kr_stops.Remembering.{can_alter_shape}
+use Rattle.kr_steps.specs.kr_stops.Watching.{watching}
 use Rattle.kr_turns.specs.CallSteps.{Carried}
 use Rattle.kr_turns.specs.Coming.{came_to}
 use Rattle.kr_turns.specs.Making.{ended_with, machine_of}

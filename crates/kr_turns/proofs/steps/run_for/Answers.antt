@@ -1,12 +1,12 @@
 use Rattle.std.proofs.Common.{◌+◌, ◌<◌, ◌∙◌, Option, None, arith, ap, lit<, refl, sym}
 use Rattle.kr_steps.specs.rv_cpu.declared.event.Event.TheVariants.{Call, Killed, Next}
 use Rattle.kr_steps.specs.rv_cpu.Run.{ran}
-use Rattle.kr_seen.specs.Numbered.{state_numbered}
-use Rattle.kr_seen.specs.kr_ops.Meaning.{meaning}
-use Rattle.kr_seen.specs.kr_ops.Sound.{IsOfView}
-use Rattle.kr_seen.proofs.kr_ops.UseLemmas.{sound-of}
+use Rattle.kr_calm.specs.kr_seen.Numbered.{state_numbered}
+use Rattle.kr_hostview.specs.kr_ops.Meaning.{meaning}
+use Rattle.kr_hostview.specs.kr_ops.Sound.{IsOfView}
+use Rattle.kr_hostview.proofs.kr_ops.UseLemmas.{sound-of}
 use Rattle.kr_calm.specs.declared.rule.Rule.{Rule}
-use Rattle.kr_stops.specs.Watching.{watching}
+use Rattle.kr_steps.specs.kr_stops.Watching.{watching}
 use Rattle.kr_turns.specs.Making.{machine_of}
 use Rattle.kr_turns.specs.Turn.{with_broken, with_status}
 use Rattle.kr_turns.proofs.AgreeLemmas.{agrees-now, killed-agrees}

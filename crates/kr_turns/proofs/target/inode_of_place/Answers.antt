@@ -1,8 +1,8 @@
 use Rattle.std.proofs.Common.{sym, ap, ◌∙◌}
 use Rattle.std.specs.Option.{option_and_then}
-use Rattle.kr_seen.specs.kr_model.Known.{known}
-use Rattle.kr_seen.specs.kr_model.State.{image_layout}
-use Rattle.kr_seen.specs.kr_ops.Meaning.{meaning}
+use Rattle.law_steady.specs.kr_model.Known.{known}
+use Rattle.law_steady.specs.kr_model.State.{image_layout}
+use Rattle.kr_hostview.specs.kr_ops.Meaning.{meaning}
 use Rattle.kr_turns.specs.Target.{inode_at}
 use Rattle.kr_turns.proofs.target.inode_of_place.Goals as goal
 

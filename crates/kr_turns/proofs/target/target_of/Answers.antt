@@ -1,9 +1,9 @@
 use Rattle.std.proofs.Common.{sym, ap, ◌∙◌}
 use Rattle.std.specs.Option.{option_map_or}
 use Rattle.kr_execve.specs.kr_view.declared.target.Target.{Target}
-use Rattle.kr_seen.specs.kr_model.Known.{known}
-use Rattle.kr_seen.specs.kr_model.State.{image_layout}
-use Rattle.kr_seen.specs.kr_ops.Meaning.{meaning}
+use Rattle.law_steady.specs.kr_model.Known.{known}
+use Rattle.law_steady.specs.kr_model.State.{image_layout}
+use Rattle.kr_hostview.specs.kr_ops.Meaning.{meaning}
 use Rattle.kr_turns.specs.Target.{inode_instead, instead_of}
 use Rattle.kr_turns.proofs.TargetLemmas.{inode_at_place, target-along}
 use Rattle.kr_turns.proofs.target.target_of.Goals as goal

@@ -1,9 +1,9 @@
 use Rattle.std.proofs.Common.{inr, map, refl}
 use Rattle.std.specs.String.{string_bytes}
-use Rattle.pr_io.specs.Drawn.{gave}
-use Rattle.pr_sources.specs.declared.answer.Which.TheVariants.{Tree as TreeSource, Elf, Input, Out, Err as ErrSink, Left}
-use Rattle.pr_sources.specs.Asking.{asked}
-use Rattle.pr_sources.specs.Within.{IsEarly}
+use Rattle.law_machines.specs.pr_io.Drawn.{gave}
+use Rattle.law_machines.specs.pr_sources.declared.answer.Which.TheVariants.{Tree as TreeSource, Elf, Input, Out, Err as ErrSink, Left}
+use Rattle.law_machines.specs.pr_sources.Asking.{asked}
+use Rattle.law_machines.specs.pr_sources.Within.{IsEarly}
 use Rattle.pr_call.specs.Promise.{NothingIsPut, opened_by, passed}
 use Rattle.pr_call.proofs.HeadlineLemmas.{headline, read-too}
 use Rattle.pr_call.proofs.ReportLemmas.{comes-after, no-source-named, read-elf, read-input, refuses-not, run-told}

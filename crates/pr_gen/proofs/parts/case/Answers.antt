@@ -1,6 +1,6 @@
 use Rattle.std.proofs.Common.{length, ap, sym, subst, ◌∙◌, arith}
 use Rattle.std.specs.Prelude.{Err}
-use Rattle.kr_tree.specs.Lawful.{AreBytes}
+use Rattle.kr_text.specs.kr_tree.Lawful.{AreBytes}
 use Rattle.kr_text.specs.Reading.{listing_of}
 use Rattle.kr_text.specs.Results.{IsListing}
 use Rattle.kr_text.specs.declared.fault.ListFault.{ListFault}

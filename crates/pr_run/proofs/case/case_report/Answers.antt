@@ -1,6 +1,6 @@
 use Rattle.std.proofs.Common.{refl}
 use Rattle.std.specs.Prelude.{Ok, Err}
-use Rattle.pr_io.specs.Drawn.{received}
+use Rattle.pr_sources.specs.pr_io.Drawn.{received}
 use Rattle.pr_run.specs.Keeping.{report_told}
 use Rattle.pr_run.specs.Puts.{uncalled}
 use Rattle.pr_run.proofs.CaseLemmas.{nothing-told, reported}

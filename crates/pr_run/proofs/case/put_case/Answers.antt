@@ -1,8 +1,8 @@
 use Rattle.std.proofs.Common.{◌≡◌, ◌≢◌, [], refl, ap, subst, ◌∙◌}
 use Rattle.std.specs.Prelude.{Err}
-use Rattle.pr_io.specs.Drawn.{received}
-use Rattle.pr_io.specs.Moves.{GetsPrefix, Puts}
-use Rattle.pr_io.specs.declared.fault.PutFault.TheVariants.{Failed}
+use Rattle.pr_sources.specs.pr_io.Drawn.{received}
+use Rattle.pr_sources.specs.pr_io.Moves.{GetsPrefix, Puts}
+use Rattle.pr_sources.specs.pr_io.declared.fault.PutFault.TheVariants.{Failed}
 use Rattle.pr_run.specs.Puts.{uncalled}
 use Rattle.pr_run.proofs.CaseLemmas.{stops-in-summary}
 use Rattle.pr_run.proofs.case.put_case.Goals as goal

@@ -1,5 +1,5 @@
 use Rattle.std.proofs.Common.{ap, ◌∙◌}
-use Rattle.kr_text.specs.Canonical.{canonical}
+use Rattle.pr_sources.specs.kr_text.Canonical.{canonical}
 use Rattle.pr_run.specs.Case.{agree, summary}
 use Rattle.pr_run.specs.Keeping.{kept_told}
 use Rattle.pr_run.proofs.CaseLemmas.{agrees, told-by}

@@ -1,10 +1,10 @@
 use Rattle.std.proofs.Common.{◌≡◌, rules, refl, sym, ap, subst, ◌∙◌}
 use Rattle.std.specs.Prelude.{Err}
 use Rattle.std.specs.Option.{option_map}
-use Rattle.pr_io.specs.Drawn.{received}
-use Rattle.pr_io.specs.Moves.{Gets}
+use Rattle.pr_sources.specs.pr_io.Drawn.{received}
+use Rattle.pr_sources.specs.pr_io.Moves.{Gets}
 use Rattle.kr_core.specs.Kernel.{machine}
-use Rattle.kr_text.specs.Canonical.{canonical}
+use Rattle.pr_sources.specs.kr_text.Canonical.{canonical}
 use Rattle.kr_core.specs.kr_turns.Turn.{Machine}
 use Rattle.kr_core.specs.kr_turns.kr_calm.Calm.{rule_number}
 use Rattle.pr_run.specs.Report.{calm_told, errs, report_of}

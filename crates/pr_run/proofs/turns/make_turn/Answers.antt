@@ -1,5 +1,5 @@
 use Rattle.std.proofs.Common.{◌≡◌, rules, ap, subst, ◌∙◌}
-use Rattle.pr_io.specs.Moves.{Gets}
+use Rattle.pr_sources.specs.pr_io.Moves.{Gets}
 use Rattle.kr_core.specs.Kernel.{HasRun, Turns, machine, machine_by}
 use Rattle.kr_core.specs.declared.kernel.Turned.{Turned}
 use Rattle.kr_core.specs.kr_stops.Watching.{watching}

@@ -1,7 +1,7 @@
 use Rattle.std.proofs.Common.{◌≡◌, suc, ◌+◌, rules, sym, ap, subst, ◌∙◌, arith, take}
 use Rattle.std.specs.Prelude.{Ok}
-use Rattle.pr_io.specs.Drawn.{received}
-use Rattle.pr_io.specs.Moves.{Gets}
+use Rattle.pr_sources.specs.pr_io.Drawn.{received}
+use Rattle.pr_sources.specs.pr_io.Moves.{Gets}
 use Rattle.kr_core.specs.Kernel.{machine_by}
 use Rattle.kr_core.specs.declared.kernel.Turned.{Turned}
 use Rattle.kr_core.specs.kr_turns.Run.{Deadlock, Over, Slot, after_put, put_by, run, turned}

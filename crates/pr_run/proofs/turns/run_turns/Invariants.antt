@@ -1,5 +1,5 @@
 use Rattle.std.proofs.Common.{◌≡◌, ◌≤◌, take, true}
-use Rattle.pr_io.specs.Moves.{Gets}
+use Rattle.pr_sources.specs.pr_io.Moves.{Gets}
 use Rattle.kr_core.specs.Kernel.{machine_by}
 use Rattle.kr_core.specs.kr_turns.Run.{run}
 use Rattle.pr_run.specs.Report.{errs, outs}

@@ -1,9 +1,9 @@
 use Rattle.std.proofs.Common.{◌≡◌, Some, refl, sym, ap, subst, ◌∙◌}
 use Rattle.std.specs.Prelude.{IsSome}
 use Rattle.kr_core.specs.kr_first.Starting.{directory_at}
-use Rattle.kr_mounts.specs.Stored.{table_of}
-use Rattle.kr_view.specs.Leads.{numbered}
-use Rattle.pr_words.specs.Command.{word_of}
+use Rattle.kr_core.specs.kr_mounts.Stored.{table_of}
+use Rattle.kr_core.specs.kr_view.Leads.{numbered}
+use Rattle.pt_first.specs.pr_words.Command.{word_of}
 use Rattle.pr_start.specs.Command.{Chosen, chosen}
 use Rattle.pr_start.specs.Directory.{At}
 use Rattle.pr_start.specs.Numbers.{directory_told, number_of}

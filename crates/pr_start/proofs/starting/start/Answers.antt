@@ -1,6 +1,6 @@
 use Rattle.std.proofs.Common.{sym, subst, lit<}
 use Rattle.std.specs.Prelude.{Result}
-use Rattle.pr_base.specs.declared.errno.Errno.{Errno}
+use Rattle.pt_tracer.specs.pr_base.declared.errno.Errno.{Errno}
 use Rattle.kr_core.specs.Runs.{Machine}
 use Rattle.pt_tracer.specs.pt_faker.declared.watch.Watch.{Watch}
 use Rattle.pr_start.specs.Beginning.{Begins}

@@ -1,7 +1,7 @@
 use Rattle.std.proofs.Common.{◌≡◌, ◌+◌, ◌-◌, ◌<◌, ◌^◌, ◌∙◌, [], ap, arith, lit<, subst, sym}
-use Rattle.pt_canon.specs.Canon.{texts_by}
-use Rattle.pt_canon.specs.Remembering.{Walking}
-use Rattle.pt_canon.proofs.RememberLemmas.{nothing_agrees}
+use Rattle.pt_tracer.specs.pt_canon.Canon.{texts_by}
+use Rattle.pt_tracer.specs.pt_canon.Remembering.{Walking}
+use Rattle.pt_tracer.proofs.pt_canon.RememberLemmas.{nothing_agrees}
 use Rattle.pt_first.specs.FirstPeeks.{first_peeked}
 use Rattle.pt_first.specs.GuestStart.{IsBegun, guest_start}
 use Rattle.pr_start.proofs.traced.first_found.Goals as goal

@@ -1,10 +1,10 @@
 use Rattle.std.proofs.Common.{lit<, ap, subst, sym, ◌∙◌}
-use Rattle.kr_start.proofs.law_allowed.SourceLemmas.{settled-are-named}
-use Rattle.kr_mounts.specs.Stored.{table_of}
-use Rattle.kr_view.specs.View.{plain}
-use Rattle.kr_view.proofs.TableLemmas.{plain_stands}
-use Rattle.pt_bind.specs.Binding.{rows_of}
-use Rattle.pt_canon.specs.Remembering.{Walking}
+use Rattle.kr_core.proofs.law_allowed.SourceLemmas.{settled-are-named}
+use Rattle.kr_core.specs.kr_mounts.Stored.{table_of}
+use Rattle.kr_core.specs.kr_view.View.{plain}
+use Rattle.kr_core.proofs.kr_view.TableLemmas.{plain_stands}
+use Rattle.pt_tracer.specs.pt_bind.Binding.{rows_of}
+use Rattle.pt_tracer.specs.pt_canon.Remembering.{Walking}
 use Rattle.pt_tracer.specs.Agreeing.{AgreesWith}
 use Rattle.pt_tracer.proofs.AgreeLemmas.{empty-agrees}
 use Rattle.pt_tracer.specs.Keeping.{Keeping}

@@ -1,6 +1,6 @@
 use Rattle.std.proofs.Common.{rules}
 use Rattle.pr_start.specs.kr_core.Kernel.{machine}
-use Rattle.kr_mounts.specs.Stored.{table_of}
+use Rattle.pr_run.specs.kr_mounts.Stored.{table_of}
 use Rattle.pr_start.specs.Numbers.{number_of}
 use Rattle.pr_start.specs.TracedBeginning.{traced_machine}
 use Rattle.pr_top.specs.Opening.{case_staged}

@@ -1,10 +1,10 @@
 use Rattle.std.proofs.Common.{◌≡◌, rules, map, refl}
 use Rattle.std.specs.Prelude.{Err}
 use Rattle.std.specs.String.{string_bytes}
-use Rattle.pr_io.specs.Drawn.{drawn, gave}
-use Rattle.pr_sources.specs.Asking.{asked}
-use Rattle.pr_sources.specs.Reading.{HasCause, IsOfWords, ReadHasCause, Sources, read_asked}
-use Rattle.pr_sources.proofs.DrawnLemmas.{drawn_none}
+use Rattle.pr_run.specs.pr_io.Drawn.{drawn, gave}
+use Rattle.pr_run.specs.pr_sources.Asking.{asked}
+use Rattle.pr_run.specs.pr_sources.Reading.{HasCause, IsOfWords, ReadHasCause, Sources, read_asked}
+use Rattle.pr_run.proofs.pr_sources.DrawnLemmas.{drawn_none}
 use Rattle.pr_top.specs.Opening.{ReadsAs, opened_for}
 use Rattle.pr_top.proofs.OpeningLemmas.{ends-refused, err-then, has-cause, if-err, no-fault, not-of-words, opens-case, opens-refused, opens-sources, reads, reads-case, reads-not, reads-refused, reads-sources}
 use Rattle.pr_top.proofs.opening.open.Goals as goal

@@ -1,6 +1,6 @@
 use Rattle.std.proofs.Common.{◌≡◌, rules}
-use Rattle.pr_io.specs.Drawn.{drawn, gave}
-use Rattle.pr_sources.specs.Reading.{EndsBeforeElf, EndsBeforeInput, IsOfWords, ReadHasCause, Sources, read_asked}
+use Rattle.pr_run.specs.pr_io.Drawn.{drawn, gave}
+use Rattle.pr_run.specs.pr_sources.Reading.{EndsBeforeElf, EndsBeforeInput, IsOfWords, ReadHasCause, Sources, read_asked}
 use Rattle.pr_top.proofs.OpeningLemmas.{ends-start, if-err, no-read-fault, not-before-elf, not-before-input, not-of-words, opens-stop, opens-then, reads-stop, reads-then}
 use Rattle.pr_top.proofs.opening.open_sources.Goals as goal
 

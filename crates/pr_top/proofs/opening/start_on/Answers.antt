@@ -1,5 +1,5 @@
 use Rattle.std.proofs.Common.{sym, ap, subst, ◌∙◌}
-use Rattle.kr_mounts.specs.Stored.{table_of}
+use Rattle.pr_run.specs.kr_mounts.Stored.{table_of}
 use Rattle.pr_start.specs.Beginning.{beginning}
 use Rattle.pr_top.specs.Opening.{Mounts, StartsAs, started_as, started_on}
 use Rattle.pr_top.proofs.opening.start_on.Goals as goal

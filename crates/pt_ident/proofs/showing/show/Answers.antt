@@ -2,7 +2,7 @@ use Rattle.std.proofs.Common.{◌≡◌, ◌∙◌, ℕ, take, drop, sym, ap, na
 use Rattle.std.specs.Int.{to_le_bytes}
 use Rattle.std.specs.Option.{SomeIff, option_eq}
 use Rattle.std.proofs.Math.Seq.{sets}
-use Rattle.pr_base.specs.Fields.{little_endian}
+use Rattle.kr_inode.specs.pr_base.Fields.{little_endian}
 use Rattle.pt_ident.proofs.showing.show.Goals as goal
 
 -- a field that was read and found to be a number is that number

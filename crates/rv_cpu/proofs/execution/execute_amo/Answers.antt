@@ -1,5 +1,5 @@
 use Rattle.std.proofs.Common.{rules, refl, arith, ◌≡◌}
-use Rattle.rv_table.specs.Small.{instr_of}
+use Rattle.rv_mem.specs.rv_table.Small.{instr_of}
 use Rattle.rv_cpu.specs.Step.{executed_word, holds, kills}
 use Rattle.rv_cpu.proofs.execution.execute_amo.Goals as goal
 

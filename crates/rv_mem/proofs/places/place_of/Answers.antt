@@ -1,5 +1,5 @@
 use Rattle.std.proofs.Common.{◌∙◌, refl}
-use Rattle.pr_base.proofs.BTreeLemmas.{get-view}
+use Rattle.rv_table.proofs.pr_base.BTreeLemmas.{get-view}
 use Rattle.rv_mem.specs.Places.{places_of}
 use Rattle.rv_mem.proofs.places.place_of.Goals as goal
 

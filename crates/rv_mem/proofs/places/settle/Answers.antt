@@ -3,8 +3,8 @@ use Rattle.std.specs.FinMap as map
 use Rattle.std.specs.Prelude.{IsSome, slice_index}
 use Rattle.std.specs.BTreeMap.{get_by}
 use Rattle.std.specs.Ordering.{nat_cmp}
-use Rattle.pr_base.proofs.BTreeLemmas.{is_found, inserted, get-view}
-use Rattle.pr_base.proofs.MapLemmas.{get-insert_same, get-insert_other}
+use Rattle.rv_table.proofs.pr_base.BTreeLemmas.{is_found, inserted, get-view}
+use Rattle.rv_table.proofs.pr_base.MapLemmas.{get-insert_same, get-insert_other}
 use Rattle.rv_mem.specs.Places.{places_of}
 use Rattle.rv_mem.proofs.places.settle.Goals as goal
 

@@ -1,4 +1,4 @@
-use Rattle.kr_files.proofs.ServedLemmas.{served-new}
+use Rattle.kr_ops.proofs.kr_files.ServedLemmas.{served-new}
 use Rattle.calls_tests.proofs.guest.Guest.new.Goals as goal
 
 pub invariant_of-result : goal.invariant_of-result

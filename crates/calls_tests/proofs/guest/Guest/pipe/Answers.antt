@@ -1,5 +1,5 @@
 use Rattle.std.proofs.Common.{refl, false}
-use Rattle.kr_files.proofs.ServedLemmas.{served-pipe}
+use Rattle.kr_ops.proofs.kr_files.ServedLemmas.{served-pipe}
 use Rattle.calls_tests.proofs.guest.Guest.pipe.Goals as goal
 
 pub invariant_of-self : goal.invariant_of-self

@@ -1,6 +1,6 @@
 use Rattle.std.proofs.Common.{drop}
-use Rattle.kr_files.specs.Files.{pipe_after_read}
-use Rattle.kr_files.proofs.ServedLemmas.{served-bytes, served-if_ok}
+use Rattle.kr_ops.specs.kr_files.Files.{pipe_after_read}
+use Rattle.kr_ops.proofs.kr_files.ServedLemmas.{served-bytes, served-if_ok}
 use Rattle.calls_tests.proofs.guest.Guest.read.Goals as goal
 
 pub invariant_of-self : goal.invariant_of-self

@@ -1,6 +1,6 @@
-use Rattle.kr_files.specs.Files.{has_reader, pipe_after_write}
-use Rattle.kr_files.specs.Pipes.{after_write}
-use Rattle.kr_files.proofs.ServedLemmas.{served-bytes, served-if_ok}
+use Rattle.kr_ops.specs.kr_files.Files.{has_reader, pipe_after_write}
+use Rattle.kr_ops.specs.kr_files.Pipes.{after_write}
+use Rattle.kr_ops.proofs.kr_files.ServedLemmas.{served-bytes, served-if_ok}
 use Rattle.calls_tests.proofs.guest.Guest.write.Goals as goal
 
 pub invariant_of-self : goal.invariant_of-self

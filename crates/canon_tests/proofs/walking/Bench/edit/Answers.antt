@@ -1,4 +1,4 @@
-use Rattle.pt_canon.proofs.RememberLemmas.{paused_agrees}
+use Rattle.pt_results.proofs.pt_canon.RememberLemmas.{paused_agrees}
 use Rattle.canon_tests.proofs.walking.Bench.edit.Goals as goal
 
 pub rewrite-requires-clause-agrees : goal.rewrite-requires-clause-agrees

@@ -1,4 +1,4 @@
-use Rattle.pt_canon.proofs.RememberLemmas.{paused_agrees}
+use Rattle.pt_results.proofs.pt_canon.RememberLemmas.{paused_agrees}
 use Rattle.canon_tests.proofs.walking.Bench.link.Goals as goal
 
 pub link_answer-requires : goal.link_answer-requires

@@ -1,5 +1,5 @@
 use Rattle.std.proofs.Common.{◌≡◌, ◌+◌, ap, arith}
-use Rattle.pt_canon.specs.Remembering.{Walking}
+use Rattle.pt_results.specs.pt_canon.Remembering.{Walking}
 use Rattle.canon_tests.proofs.walking.Bench.new.Goals as goal
 
 pub invariant_of-bench : goal.invariant_of-bench

@@ -1,4 +1,4 @@
-use Rattle.pt_canon.proofs.RememberLemmas.{paused_agrees}
+use Rattle.pt_results.proofs.pt_canon.RememberLemmas.{paused_agrees}
 use Rattle.canon_tests.proofs.walking.Bench.walk.Goals as goal
 
 pub canon-requires-clause-agrees : goal.canon-requires-clause-agrees

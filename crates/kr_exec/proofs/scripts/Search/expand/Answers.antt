@@ -1,6 +1,6 @@
 use Rattle.std.proofs.Common.{◌≡◌, ◌∙◌, ◌-◌, suc, sym, arith}
 use Rattle.std.proofs.lemmas.Result.{err_from_is_err_and}
-use Rattle.kr_view.specs.Leads.{numbered}
+use Rattle.kr_walk.specs.kr_view.Leads.{numbered}
 use Rattle.kr_calls.specs.Expansion.{most_scripts}
 use Rattle.kr_exec.specs.Answers.{around_of, running}
 use Rattle.kr_exec.specs.Interpreters.{ends_of, paths_of, programs, walks_reach}

@@ -1,5 +1,5 @@
 use Rattle.std.proofs.Common.{◌≡◌, false, true}
-use Rattle.kr_view.specs.Leads.{numbered}
+use Rattle.kr_walk.specs.kr_view.Leads.{numbered}
 use Rattle.kr_calls.specs.Expansion.{is_too_big, most_scripts}
 use Rattle.kr_exec.specs.Answers.{around_of, running}
 use Rattle.kr_exec.specs.Finding.{is_program_found}

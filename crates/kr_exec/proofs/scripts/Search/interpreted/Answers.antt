@@ -1,6 +1,6 @@
 use Rattle.std.proofs.Common.{ℕ, List, Ok}
 use Rattle.std.proofs.lemmas.Result.{err_from_is_err_and}
-use Rattle.kr_view.specs.Leads.{numbered}
+use Rattle.kr_walk.specs.kr_view.Leads.{numbered}
 use Rattle.kr_calls.specs.Scripts.{script_of}
 use Rattle.kr_exec.specs.Answers.{around_of}
 use Rattle.kr_exec.proofs.RunningLemmas.{covers_line, line_reached, wanting_reach}

@@ -1,5 +1,5 @@
 use Rattle.std.proofs.Common.{subst}
-use Rattle.pr_base.specs.Peeks.{IsPeeked}
+use Rattle.kr_seen.specs.pr_base.Peeks.{IsPeeked}
 use Rattle.kr_seen.specs.kr_model.Peeks.{peeked_of}
 use Rattle.kr_seen.specs.kr_ops.Meaning.{meaning}
 use Rattle.kr_hostview.specs.Asked.{Asked}

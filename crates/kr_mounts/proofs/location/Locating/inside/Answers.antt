@@ -1,7 +1,7 @@
 use Rattle.std.proofs.Common.{true, sym, ap, subst}
 use Rattle.pt_bind.specs.pr_base.Paths.{Component}
-use Rattle.kr_view.specs.Component.{inside}
-use Rattle.kr_view.specs.View.{node_in}
+use Rattle.kr_walk.specs.kr_view.Component.{inside}
+use Rattle.kr_walk.specs.kr_view.View.{node_in}
 use Rattle.kr_mounts.specs.Spots.{IsShownAt, alone_around}
 use Rattle.kr_mounts.proofs.location.Locating.inside.Goals as goal
 

@@ -1,7 +1,7 @@
 use Rattle.std.proofs.Common.{sym, ap, ◌∙◌}
 use Rattle.std.specs.Option.{option_map}
 use Rattle.pt_bind.specs.pr_base.Paths.{component_of}
-use Rattle.kr_view.specs.View.{node_in}
+use Rattle.kr_walk.specs.kr_view.View.{node_in}
 use Rattle.kr_mounts.proofs.SightLemmas.{sight_by_text, sight_in_none, sight_inside, sight_refused}
 use Rattle.kr_mounts.proofs.location.Locating.look.Goals as goal
 

@@ -1,6 +1,6 @@
 use Rattle.std.proofs.Common.{◌≡◌, true, false, arith, sym}
 use Rattle.std.proofs.lemmas.Bool.Decides.{nat_tests}
-use Rattle.kr_view.specs.Component.{too_long}
+use Rattle.kr_walk.specs.kr_view.Component.{too_long}
 use Rattle.kr_mounts.proofs.SightLemmas.{named_link, named_long, named_none, named_other}
 use Rattle.kr_mounts.proofs.location.Locating.named.Goals as goal
 

@@ -3,7 +3,7 @@ use Rattle.std.specs.Option.{option_map}
 use Rattle.pt_bind.specs.pr_base.Parts.{parts_left, rest_of}
 use Rattle.pt_bind.specs.pr_base.Paths.{component_of, components_of}
 use Rattle.pt_bind.specs.pr_base.Texts.{Text}
-use Rattle.kr_view.specs.View.{node_in}
+use Rattle.kr_walk.specs.kr_view.View.{node_in}
 use Rattle.kr_mounts.specs.Locations.{Spot, stepped}
 use Rattle.kr_mounts.specs.Spots.{IsStepped, location_from, location_left, location_on, spot_of}
 use Rattle.kr_mounts.specs.declared.fault.BindWhy.{BindWhy}

@@ -1,5 +1,5 @@
 use Rattle.std.proofs.Common.{◌≡◌, ◌∙◌, ap, sym, Some, None, position}
-use Rattle.kr_view.specs.View.{stands_at, is_point}
+use Rattle.kr_walk.specs.kr_view.View.{stands_at, is_point}
 use Rattle.kr_mounts.specs.Index.{name_number}
 use Rattle.kr_mounts.specs.Stored.{table_of}
 use Rattle.kr_mounts.proofs.IndexLemmas.{no_point_there}

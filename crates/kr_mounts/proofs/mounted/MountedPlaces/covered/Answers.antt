@@ -1,5 +1,5 @@
 use Rattle.std.proofs.Common.{◌∙◌, ap, sym}
-use Rattle.kr_view.specs.View.{covered}
+use Rattle.kr_walk.specs.kr_view.View.{covered}
 use Rattle.kr_mounts.specs.Stored.{table_of}
 use Rattle.kr_mounts.proofs.IndexLemmas.{covered_is, not_covered}
 use Rattle.kr_mounts.proofs.mounted.MountedPlaces.covered.Goals as goal

@@ -1,7 +1,7 @@
 use Rattle.std.proofs.Common.{◌≡◌, ◌∙◌, ap, sym, refl, length, Some, None}
 use Rattle.std.specs.Prelude.{slice_get}
 use Rattle.std.proofs.lemmas.Option.{slice_get_past, slice_get_read}
-use Rattle.kr_view.specs.View.{location}
+use Rattle.kr_walk.specs.kr_view.View.{location}
 use Rattle.kr_mounts.specs.Stored.{table_of}
 use Rattle.kr_mounts.proofs.TableLemmas.{location_none, location_some}
 use Rattle.kr_mounts.proofs.mounted.MountedPlaces.location.Goals as goal

@@ -3,8 +3,8 @@ use Rattle.std.proofs.lemmas.List.Elements.{All-head, All-tail}
 use Rattle.std.proofs.lemmas.Result.{IfOk-weaker}
 use Rattle.pt_bind.specs.pr_base.Parts.{parts_left}
 use Rattle.pt_bind.specs.pr_base.Paths.{IsPart, parts_of}
-use Rattle.kr_view.specs.kr_tree.Tree.{Tree}
-use Rattle.kr_view.specs.View.{Point}
+use Rattle.kr_walk.specs.kr_tree.Tree.{Tree}
+use Rattle.kr_walk.specs.kr_view.View.{Point}
 use Rattle.kr_mounts.specs.Growth.{Same}
 use Rattle.kr_mounts.specs.Points.{Left, way}
 use Rattle.kr_mounts.specs.Stored.{table_of}

@@ -1,5 +1,5 @@
 use Rattle.std.proofs.Common.{[], Ok, sym, ◌∙◌}
-use Rattle.kr_view.specs.View.{Point}
+use Rattle.kr_walk.specs.kr_view.View.{Point}
 use Rattle.kr_mounts.specs.Points.{way}
 use Rattle.kr_mounts.specs.Stored.{table_of}
 use Rattle.kr_mounts.specs.Ways.{wanted_of}

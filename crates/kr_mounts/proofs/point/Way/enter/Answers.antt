@@ -1,7 +1,7 @@
 use Rattle.std.proofs.Common.{◌≡◌, ℕ, Option, Some, sym, ap, ◌∙◌}
-use Rattle.kr_view.specs.kr_tree.declared.place.Host.TheVariants.{Node, Proc}
-use Rattle.kr_view.specs.kr_tree.declared.place.Place.{Place}
-use Rattle.kr_view.specs.kr_tree.Tree.{entry}
+use Rattle.kr_walk.specs.kr_tree.declared.place.Host.TheVariants.{Node, Proc}
+use Rattle.kr_walk.specs.kr_tree.declared.place.Place.{Place}
+use Rattle.kr_walk.specs.kr_tree.Tree.{entry}
 use Rattle.kr_mounts.specs.Growth.{Same}
 use Rattle.kr_mounts.specs.Points.{at_entry}
 use Rattle.kr_mounts.specs.Stored.{table_of}

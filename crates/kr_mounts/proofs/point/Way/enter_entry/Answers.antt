@@ -1,5 +1,5 @@
 use Rattle.std.proofs.Common.{Result, sym, ◌∙◌}
-use Rattle.kr_view.specs.kr_tree.Tree.{entry}
+use Rattle.kr_walk.specs.kr_tree.Tree.{entry}
 use Rattle.kr_mounts.specs.Growth.{Same}
 use Rattle.kr_mounts.specs.Points.{at_entry}
 use Rattle.kr_mounts.specs.Ways.{IsEntered}

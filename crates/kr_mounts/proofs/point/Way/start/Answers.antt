@@ -1,5 +1,5 @@
 use Rattle.std.proofs.Common.{ℕ, ap, sym, ◌∙◌}
-use Rattle.kr_view.specs.kr_tree.declared.place.Place.{Place}
+use Rattle.kr_walk.specs.kr_tree.declared.place.Place.{Place}
 use Rattle.kr_mounts.proofs.WayLemmas.{node_number}
 use Rattle.kr_mounts.proofs.point.Way.start.Goals as goal
 

@@ -1,7 +1,7 @@
 use Rattle.std.proofs.Common.{ap, sym, ◌∙◌}
 use Rattle.kr_steps.specs.rv_mem.Pages.{allows_all}
-use Rattle.kr_seen.specs.kr_model.State.{Image}
-use Rattle.kr_stops.specs.Editing.{memory_at}
+use Rattle.law_steady.specs.kr_model.State.{Image}
+use Rattle.kr_steps.specs.kr_stops.Editing.{memory_at}
 use Rattle.kr_turns.specs.Held.{Held, stopped_of}
 use Rattle.kr_turns.proofs.HereLemmas.{image-numbered}
 use Rattle.kr_turns.proofs.here.HereTracee.can.Goals as goal

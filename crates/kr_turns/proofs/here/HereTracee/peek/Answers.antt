@@ -3,11 +3,11 @@ use Rattle.std.specs.Prelude.{IsOk, IsTrue, OnOk, ◌↔◌}
 use Rattle.std.proofs.lemmas.Result.{on_ok_weaker}
 use Rattle.kr_steps.specs.rv_mem.Memory.{Memory, after_read}
 use Rattle.kr_steps.specs.rv_mem.Pages.{allows_all, bytes_from}
-use Rattle.kr_seen.specs.kr_model.State.{Image}
-use Rattle.kr_seen.specs.kr_ops.Meaning.{meaning}
-use Rattle.kr_stops.specs.Editing.{after_peek, memory_at}
+use Rattle.law_steady.specs.kr_model.State.{Image}
+use Rattle.kr_hostview.specs.kr_ops.Meaning.{meaning}
+use Rattle.kr_steps.specs.kr_stops.Editing.{after_peek, memory_at}
 use Rattle.kr_turns.specs.Held.{Held, stopped_of}
-use Rattle.kr_stops.specs.Stopped.{image_in}
+use Rattle.kr_steps.specs.kr_stops.Stopped.{image_in}
 use Rattle.kr_turns.proofs.EditingLemmas.{on-err}
 use Rattle.kr_turns.proofs.HereLemmas.{edits, held-now, image-numbered, same-in, stands-used}
 use Rattle.kr_turns.proofs.here.HereTracee.peek.Goals as goal

@@ -1,7 +1,7 @@
 use Rattle.std.proofs.Common.{subst}
-use Rattle.kr_seen.specs.kr_tree.Lawful.{IsSound}
+use Rattle.kr_execve.specs.kr_tree.Lawful.{IsSound}
 use Rattle.kr_turns.specs.Held.{Held, stopped_of}
-use Rattle.kr_stops.specs.Stopped.{IsThere}
+use Rattle.kr_steps.specs.kr_stops.Stopped.{IsThere}
 use Rattle.kr_turns.proofs.HereLemmas.{there-in}
 use Rattle.kr_turns.proofs.here.HereTracee.pid.Goals as goal
 

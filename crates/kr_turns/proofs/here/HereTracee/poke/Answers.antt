@@ -5,11 +5,11 @@ use Rattle.kr_steps.specs.rv_mem.Memory.{Memory, with_pages}
 use Rattle.kr_steps.specs.rv_mem.Pages.{allows_all, written}
 use Rattle.kr_steps.specs.rv_mem.declared.fault.StoreFault.TheVariants.{BadAddress}
 use Rattle.kr_steps.specs.rv_mem.declared.rights.Use.TheVariants.{Write}
-use Rattle.kr_seen.specs.kr_model.State.{Image}
-use Rattle.kr_seen.specs.kr_ops.Meaning.{meaning}
-use Rattle.kr_stops.specs.Editing.{after_poke, memory_at}
+use Rattle.law_steady.specs.kr_model.State.{Image}
+use Rattle.kr_hostview.specs.kr_ops.Meaning.{meaning}
+use Rattle.kr_steps.specs.kr_stops.Editing.{after_poke, memory_at}
 use Rattle.kr_turns.specs.Held.{Held, stopped_of}
-use Rattle.kr_stops.specs.Stopped.{image_in}
+use Rattle.kr_steps.specs.kr_stops.Stopped.{image_in}
 use Rattle.kr_turns.proofs.EditingLemmas.{on-err}
 use Rattle.kr_turns.proofs.HereLemmas.{edits, held-now, image-numbered, same-in, stands-used}
 use Rattle.kr_turns.proofs.here.HereTracee.poke.Goals as goal

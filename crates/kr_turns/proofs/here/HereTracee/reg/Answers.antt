@@ -1,6 +1,6 @@
 use Rattle.std.proofs.Common.{get_or, ap, sym, ◌∙◌}
-use Rattle.kr_seen.specs.kr_model.State.{Image}
-use Rattle.kr_stops.specs.Editing.{register_at}
+use Rattle.law_steady.specs.kr_model.State.{Image}
+use Rattle.kr_steps.specs.kr_stops.Editing.{register_at}
 use Rattle.kr_turns.specs.Held.{Held, stopped_of}
 use Rattle.kr_turns.proofs.HereLemmas.{image-numbered}
 use Rattle.kr_turns.proofs.here.HereTracee.reg.Goals as goal

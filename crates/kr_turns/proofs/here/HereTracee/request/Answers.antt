@@ -2,11 +2,11 @@ use Rattle.std.proofs.Common.{ap, subst, sym, ◌∙◌}
 use Rattle.kr_steps.specs.rv_mem.Actions.{carried_out}
 use Rattle.kr_execve.specs.kr_calls.Decodes.{Gives}
 use Rattle.kr_execve.specs.kr_calls.Decoding.{decoding}
-use Rattle.kr_seen.specs.kr_model.State.{Image}
-use Rattle.kr_seen.specs.kr_ops.Meaning.{meaning}
-use Rattle.kr_stops.specs.Editing.{Decodes, after_request}
+use Rattle.law_steady.specs.kr_model.State.{Image}
+use Rattle.kr_hostview.specs.kr_ops.Meaning.{meaning}
+use Rattle.kr_steps.specs.kr_stops.Editing.{Decodes, after_request}
 use Rattle.kr_turns.specs.Held.{Held, stopped_of}
-use Rattle.kr_stops.specs.Stopped.{image_in}
+use Rattle.kr_steps.specs.kr_stops.Stopped.{image_in}
 use Rattle.kr_turns.proofs.HereLemmas.{decoded-given, decoded-leaves, edits, held-now, image-numbered, stands-after}
 use Rattle.kr_turns.proofs.here.HereTracee.request.Goals as goal
 

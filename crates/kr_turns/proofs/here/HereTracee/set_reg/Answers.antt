@@ -1,9 +1,9 @@
 use Rattle.std.proofs.Common.{slice_set, ap, ◌∙◌}
-use Rattle.kr_seen.specs.kr_model.State.{Image}
-use Rattle.kr_seen.specs.kr_ops.Meaning.{meaning}
-use Rattle.kr_stops.specs.Editing.{with_register}
+use Rattle.law_steady.specs.kr_model.State.{Image}
+use Rattle.kr_hostview.specs.kr_ops.Meaning.{meaning}
+use Rattle.kr_steps.specs.kr_stops.Editing.{with_register}
 use Rattle.kr_turns.specs.Held.{Held, stopped_of}
-use Rattle.kr_stops.specs.Stopped.{image_in}
+use Rattle.kr_steps.specs.kr_stops.Stopped.{image_in}
 use Rattle.kr_turns.proofs.HereLemmas.{edits, held-now, stands-after}
 use Rattle.kr_turns.proofs.here.HereTracee.set_reg.Goals as goal
 

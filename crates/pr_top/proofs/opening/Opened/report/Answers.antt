@@ -1,6 +1,6 @@
 use Rattle.std.proofs.Common.{◌≡◌, false, refl, sym, ap, subst, ◌∙◌}
-use Rattle.kr_mounts.specs.Stored.{table_of}
-use Rattle.pr_io.specs.Drawn.{received}
+use Rattle.pr_run.specs.kr_mounts.Stored.{table_of}
+use Rattle.pr_run.specs.pr_io.Drawn.{received}
 use Rattle.pr_run.specs.Puts.{AnswersReport}
 use Rattle.pr_run.specs.Report.{Report}
 use Rattle.pr_start.specs.Beginning.{told_with}

@@ -1,5 +1,5 @@
 use Rattle.std.proofs.Common.{◌∙◌, ap, sym}
-use Rattle.pr_base.proofs.BTreeLemmas.{inserted, removed}
+use Rattle.elf_load.proofs.pr_base.BTreeLemmas.{inserted, removed}
 use Rattle.pt_faker.specs.Faking.{dues_with}
 use Rattle.pt_faker.proofs.dues.Dues.set.Goals as goal
 

@@ -1,5 +1,5 @@
 use Rattle.std.proofs.Common.{◌∙◌}
-use Rattle.pr_base.proofs.BTreeLemmas.{get-view, removed}
+use Rattle.elf_load.proofs.pr_base.BTreeLemmas.{get-view, removed}
 use Rattle.pt_faker.proofs.dues.Dues.take.Goals as goal
 
 pub returns-clause-due : goal.returns-clause-due

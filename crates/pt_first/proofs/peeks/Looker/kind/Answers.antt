@@ -1,5 +1,5 @@
 use Rattle.std.proofs.Common.{sym, subst, Ok}
-use Rattle.pr_base.specs.Peeks.{IsPeeked}
+use Rattle.pr_words.specs.pr_base.Peeks.{IsPeeked}
 use Rattle.kr_hostview.specs.Peeking.{IsFound}
 use Rattle.pt_first.specs.FirstPeeks.{answer_along}
 use Rattle.pt_first.proofs.PeekLemmas.{kind-found}

@@ -1,9 +1,9 @@
 use Rattle.std.proofs.Common.{ℕ, subst}
-use Rattle.pr_base.specs.declared.path.WalkMode.TheVariants.{LookLink}
-use Rattle.kr_tree.specs.declared.place.Place.{Place}
-use Rattle.kr_view.specs.Answers.{IsAnswer, IsReached}
-use Rattle.kr_view.specs.View.{plain}
-use Rattle.kr_view.specs.Walk.{place_walk}
+use Rattle.pr_words.specs.pr_base.declared.path.WalkMode.TheVariants.{LookLink}
+use Rattle.kr_first.specs.kr_tree.declared.place.Place.{Place}
+use Rattle.kr_first.specs.kr_view.Answers.{IsAnswer, IsReached}
+use Rattle.kr_first.specs.kr_view.View.{plain}
+use Rattle.kr_first.specs.kr_view.Walk.{place_walk}
 use Rattle.kr_first.specs.Starting.{around}
 use Rattle.kr_hostview.specs.OnHost.{number}
 use Rattle.pt_first.proofs.peeks.Looker.walked.Goals as goal

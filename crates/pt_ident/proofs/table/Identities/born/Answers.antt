@@ -1,6 +1,6 @@
 use Rattle.std.specs.FinMap as map
 use Rattle.std.proofs.Common.{◌∙◌, ap}
-use Rattle.pr_base.proofs.BTreeLemmas.{inserted}
+use Rattle.kr_inode.proofs.pr_base.BTreeLemmas.{inserted}
 use Rattle.pt_ident.specs.IdentityTable.{IdentityTable}
 use Rattle.pt_ident.proofs.TableLemmas.{same_table}
 use Rattle.pt_ident.proofs.table.Identities.born.Goals as goal

@@ -1,5 +1,5 @@
 use Rattle.std.proofs.Common.{◌∙◌, ap}
-use Rattle.pr_base.proofs.BTreeLemmas.{get-view, removed}
+use Rattle.kr_inode.proofs.pr_base.BTreeLemmas.{get-view, removed}
 use Rattle.pt_ident.specs.IdentityTable.{IdentityTable}
 use Rattle.pt_ident.proofs.TableLemmas.{is_kept, is_starting, same_table}
 use Rattle.pt_ident.proofs.table.Identities.take.Goals.{in-Some, in-None+in_ok-ids-in-None}

@@ -1,7 +1,7 @@
 use Rattle.std.proofs.Common.{◌∙◌, ap}
-use Rattle.pr_base.specs.Paths.{is_absolute}
-use Rattle.pr_base.specs.declared.path.WalkMode.TheVariants.{Look}
-use Rattle.pr_base.proofs.PathLemmas.{text_absolute}
+use Rattle.pt_args.specs.pr_base.Paths.{is_absolute}
+use Rattle.pt_args.specs.pr_base.declared.path.WalkMode.TheVariants.{Look}
+use Rattle.pt_args.proofs.pr_base.PathLemmas.{text_absolute}
 use Rattle.pt_args.specs.pt_bind.Binding.{host_of, names_of}
 use Rattle.pt_args.specs.pt_canon.Canon.{texts_by}
 use Rattle.pt_script.proofs.finder.Finder.canon_from.Goals as goal

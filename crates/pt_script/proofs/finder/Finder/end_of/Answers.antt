@@ -1,7 +1,7 @@
 use Rattle.std.proofs.Common.{◌≡◌, ◌∙◌, Ok, ap, subst, sym}
 use Rattle.std.proofs.lemmas.Result.{err_from_is_err_and}
 use Rattle.std.specs.Option.{option_copied}
-use Rattle.pr_base.specs.Peeks.{Peeked}
+use Rattle.pt_args.specs.pr_base.Peeks.{Peeked}
 use Rattle.pt_args.specs.pt_canon.Canon.{texts_by}
 use Rattle.pt_args.specs.pt_canon.Remembering.{Agrees}
 use Rattle.pt_args.specs.kr_calls.Expansion.{is_script}

@@ -1,7 +1,7 @@
 use Rattle.std.proofs.Common.{◌≡◌, ◌∙◌, ◌+◌, if◌then◌else◌, length, ap, arith, subst}
 use Rattle.std.specs.Ordering.{eq_by_cmp, nat_cmp}
 use Rattle.pt_faker.specs.kr_stops.Remembering.{KeepsAllFree}
-use Rattle.pt_canon.specs.Remembering.{Walking}
+use Rattle.law_steady.specs.pt_canon.Remembering.{Walking}
 use Rattle.pt_tracer.specs.Pausing.{IsPausedBy, IsPausedFor, Pausing, is_pausing}
 use Rattle.pt_tracer.proofs.PauseLemmas.{all-paused, paused-for, paused-more, still-pausing}
 use Rattle.pt_tracer.proofs.pausing.PausingWalker.pause_for.Goals as goal

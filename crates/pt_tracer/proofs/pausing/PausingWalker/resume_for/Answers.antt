@@ -1,6 +1,6 @@
 use Rattle.std.proofs.Common.{◌≡◌, ◌∙◌, ◌+◌, if◌then◌else◌, length, ap, arith, subst, sym}
 use Rattle.pt_faker.specs.kr_stops.Remembering.{KeepsOthersFree, StillAgrees}
-use Rattle.pt_canon.specs.Remembering.{Walking}
+use Rattle.law_steady.specs.pt_canon.Remembering.{Walking}
 use Rattle.pt_tracer.specs.Agreeing.{AgreesWith}
 use Rattle.pt_tracer.specs.Pausing.{IsPausedBy, IsPausedFor, Pausing}
 use Rattle.pt_tracer.proofs.PauseLemmas.{others-paused, paused-less, resumed-agrees, some-pauses}

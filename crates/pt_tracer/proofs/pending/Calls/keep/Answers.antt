@@ -1,4 +1,4 @@
-use Rattle.pr_base.proofs.BTreeLemmas.{inserted}
+use Rattle.law_steady.proofs.pr_base.BTreeLemmas.{inserted}
 use Rattle.pt_tracer.proofs.pending.Calls.keep.Goals as goal
 
 pub returns : goal.returns

@@ -1,5 +1,5 @@
 use Rattle.std.proofs.Common.{◌∙◌}
-use Rattle.pr_base.proofs.BTreeLemmas.{get-view, removed}
+use Rattle.law_steady.proofs.pr_base.BTreeLemmas.{get-view, removed}
 use Rattle.pt_tracer.proofs.pending.Calls.take.Goals as goal
 
 pub returns-clause-call : goal.returns-clause-call

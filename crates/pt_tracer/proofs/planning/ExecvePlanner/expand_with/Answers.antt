@@ -1,5 +1,5 @@
 use Rattle.std.proofs.Common.{◌≡◌, ◌∙◌, ◌-◌, length, sym, ap}
-use Rattle.pt_bind.specs.Binding.{rows_of}
+use Rattle.law_steady.specs.pt_bind.Binding.{rows_of}
 use Rattle.pt_tracer.specs.Planning.{script_plan}
 use Rattle.pt_tracer.proofs.PlanLemmas.{if_ok, peeks-then, script-expanded}
 use Rattle.pt_tracer.proofs.planning.ExecvePlanner.expand_with.Goals as goal

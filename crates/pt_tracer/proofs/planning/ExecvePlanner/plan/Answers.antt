@@ -1,7 +1,7 @@
 use Rattle.std.proofs.Common.{◌≡◌, ◌∙◌, ◌≤◌, Err, Ok, true, sym, ap, subst}
-use Rattle.pr_base.specs.declared.bind.Bound.{Bound}
+use Rattle.law_steady.specs.pr_base.declared.bind.Bound.{Bound}
 use Rattle.std.specs.Prelude.{List}
-use Rattle.pt_bind.specs.Binding.{rows_of}
+use Rattle.law_steady.specs.pt_bind.Binding.{rows_of}
 use Rattle.pt_faker.specs.Stopping.{Stopped}
 use Rattle.pt_faker.proofs.StopLemmas.{only-then, same-edits}
 use Rattle.pt_faker.specs.Reading.{Reads, lists_at}

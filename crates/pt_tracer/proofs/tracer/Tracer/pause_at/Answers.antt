@@ -1,5 +1,5 @@
 use Rattle.std.proofs.Common.{◌∙◌, ap, subst, sym}
-use Rattle.pt_bind.specs.Binding.{rows_of}
+use Rattle.law_steady.specs.pt_bind.Binding.{rows_of}
 use Rattle.pt_faker.proofs.StopLemmas.{on_ok}
 use Rattle.pt_tracer.specs.Agreeing.{AgreesWith}
 use Rattle.pt_tracer.specs.Keeping.{Keeping}

@@ -1,6 +1,6 @@
 use Rattle.std.proofs.Common.{◌≡◌, ◌∙◌, SFits, ap, rules, subst, sym, w64}
 use Rattle.std.proofs.Math.Facts.{to_z-of_z}
-use Rattle.pt_bind.specs.Binding.{rows_of}
+use Rattle.law_steady.specs.pt_bind.Binding.{rows_of}
 use Rattle.pt_faker.proofs.StopLemmas.{on_ok, only-then}
 use Rattle.pt_tracer.specs.Agreeing.{AgreesWith, WalksAt}
 use Rattle.pt_tracer.specs.Keeping.{Keeping}

@@ -1,7 +1,7 @@
 use Rattle.std.proofs.Common.{◌≡◌, ◌∙◌, ap, refl, length, None}
 use Rattle.std.specs.FinMap as map
-use Rattle.pr_base.proofs.BTreeLemmas.{inserted, removed}
-use Rattle.pr_base.proofs.MapLemmas.{remove-insert}
+use Rattle.rv_table.proofs.pr_base.BTreeLemmas.{inserted, removed}
+use Rattle.rv_table.proofs.pr_base.MapLemmas.{remove-insert}
 use Rattle.rv_mem.specs.Page.{fresh_page}
 use Rattle.rv_mem.specs.Places.{places_of}
 use Rattle.rv_mem.proofs.PlaceLemmas.{no_place, AreNumbered-push, paired-push, pages_at-push}

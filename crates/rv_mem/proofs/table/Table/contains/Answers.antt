@@ -1,6 +1,6 @@
 use Rattle.std.proofs.Common.{◌∙◌, ap, sym, refl, is_some}
 use Rattle.std.specs.FinMap as map
-use Rattle.pr_base.proofs.BTreeLemmas.{get-view}
+use Rattle.rv_table.proofs.pr_base.BTreeLemmas.{get-view}
 use Rattle.rv_mem.specs.Places.{places_of}
 use Rattle.rv_mem.proofs.PlaceLemmas.{contains-pages_at}
 use Rattle.rv_mem.proofs.table.Table.contains.Goals as goal

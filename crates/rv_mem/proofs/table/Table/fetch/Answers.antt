@@ -2,7 +2,7 @@ use Rattle.std.specs.FinMap as map
 use Rattle.std.proofs.Common.{◌<◌, ◌≤◌, ◌≡◌, ◌+◌, ◌*◌, ◌/◌, ◌%◌, ◌∙◌, List, sym, ap, subst, true, false, Some, length, take, drop, arith, lit<}
 use Rattle.std.specs.List.{list_any}
 use Rattle.std.specs.Option.{option_map_or}
-use Rattle.pr_base.specs.Fields.{little_endian}
+use Rattle.rv_table.specs.pr_base.Fields.{little_endian}
 use Rattle.rv_table.specs.Rows.{decoded}
 use Rattle.rv_mem.specs.declared.rights.Use.TheVariants.{Execute}
 use Rattle.rv_mem.specs.Page.{PageState, grants}

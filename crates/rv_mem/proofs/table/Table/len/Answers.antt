@@ -1,6 +1,6 @@
 use Rattle.std.proofs.Common.{◌∙◌, ap, sym}
 use Rattle.std.specs.FinMap as map
-use Rattle.pr_base.proofs.BTreeLemmas.{len-from_entries}
+use Rattle.rv_table.proofs.pr_base.BTreeLemmas.{len-from_entries}
 use Rattle.rv_mem.specs.Places.{places_of}
 use Rattle.rv_mem.proofs.PlaceLemmas.{len-pages_at}
 use Rattle.rv_mem.proofs.table.Table.len.Goals as goal

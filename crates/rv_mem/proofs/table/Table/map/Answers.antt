@@ -2,7 +2,7 @@ use Rattle.std.proofs.Common.{ℕ, List, ◌≡◌, ◌+◌, ◌∙◌, arith, t
 use Rattle.std.specs.FinMap as map
 use Rattle.std.specs.List.{list_any}
 use Rattle.rv_mem.specs.Page.{fresh_page}
-use Rattle.pr_base.proofs.MapLemmas.{get-changed_other}
+use Rattle.rv_table.proofs.pr_base.MapLemmas.{get-changed_other}
 use Rattle.rv_mem.proofs.ChangeLemmas.{contains-with_page}
 use Rattle.rv_mem.proofs.TableLemmas.{there_after, outside_after, fresh_more, mapped_from}
 use Rattle.rv_mem.proofs.table.Table.map.Goals as goal

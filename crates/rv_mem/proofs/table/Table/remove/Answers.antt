@@ -1,8 +1,8 @@
 use Rattle.std.proofs.Common.{◌≡◌, ◌∙◌, ◌<◌, sym, ap, subst, refl, length, List, ℕ, Some, None, lit<}
 use Rattle.std.specs.Prelude.{IsSome, slice_index}
 use Rattle.std.specs.FinMap as map
-use Rattle.pr_base.proofs.BTreeLemmas.{removed}
-use Rattle.pr_base.proofs.MapLemmas.{remove-none}
+use Rattle.rv_table.proofs.pr_base.BTreeLemmas.{removed}
+use Rattle.rv_table.proofs.pr_base.MapLemmas.{remove-none}
 use Rattle.rv_mem.specs.Places.{places_of, no_page, pages_at, IsSettled}
 use Rattle.rv_mem.proofs.MapLemmas.{get-place}
 use Rattle.rv_mem.proofs.PlaceLemmas.{IsLeft, left_by_index, inside, absent, still_there, paired-removed, AreNumbered-removed, pages_at-removed}

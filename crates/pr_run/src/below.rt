@@ -1,0 +1,8 @@
+//! What those above name of the crates below.
+
+pub use pr_sources::below::{
+    BindFault, CleanSink, CleanSource, FileSink, FileSource, MemSink, MemSource, Mounted, Plain,
+    ReplacingSink, Sink, Source,
+};
+pub use pr_sources::laws::sources_that_tell_agree;
+pub use pr_sources::{Answer, Asked, Which, ask, read};
