@@ -1,5 +1,6 @@
 //! Runs, and what is seen of them.
-ghost use Rattle.std.specs.Prelude.{◌≡◌, ◌<◌, ◌^◌, true};
+ghost use Rattle.std.specs.Prelude.{◌≡◌, ◌<◌, ◌^◌};
+ghost use Rattle.kr_core.specs.Kernel.{HasNoTurn};
 
 use kr_core::below::{Bytes, NoMemory, Places, Stops};
 use kr_core::{Kernel, Turned};
@@ -12,6 +13,8 @@ fn note<P: Places, S: Stops, const M: u8>(
 ) -> Result<(), NoMemory>
     ensures whole { kernel.new.whole ≡ kernel.old.whole }
     ensures turns { kernel.new.turns ≡ kernel.old.turns }
+    ensures calls { kernel.new.calls ≡ kernel.old.calls }
+    ensures paused { kernel.new.paused ≡ kernel.old.paused }
 {
     seen.append(kernel.out())?;
     kernel.clear_bytes();
@@ -33,8 +36,7 @@ pub fn run<P: Places, S: Stops, const M: u8>(
     kernel: &mut Kernel<P, S, M>,
     turns: u32,
 ) -> Result<Bytes, NoMemory>
-    requires whole { kernel.old.whole ≡ true }
-    requires new { kernel.old.turns ≡ 0 }
+    requires new { HasNoTurn kernel.old }
     requires few { turns < 2 ^ 31 }
 {
     let mut seen = Bytes::new(alloc);

@@ -1,5 +1,6 @@
 //! Guests whose calls are watched: what is done at their stops, and which stops come. All of it was worked out by hand.
-ghost use Rattle.std.specs.Prelude.{◌≡◌, true, IfOk};
+ghost use Rattle.std.specs.Prelude.{IfOk};
+ghost use Rattle.kr_core.specs.Kernel.{HasNoTurn};
 
 use crate::noting::Noting;
 use crate::run::run;
@@ -62,7 +63,7 @@ const WATCHED: &[(&str, &str)] = &[
 ];
 
 /// A child dies of ebreak; its parent waits for it, asks for the notes and puts them out.
-const EBREAK: &[u32] = &[
+pub const EBREAK: &[u32] = &[
     0x0dc0_0893, // addi a7, zero, 220
     0x0110_0513, // addi a0, zero, 17
     0x0000_0593, // addi a1, zero, 0
@@ -89,8 +90,8 @@ const EBREAK: &[u32] = &[
 ];
 
 /// A kernel over that listing whose calls are noted; its input is `abcd`.
-fn noted<const M: u8>(alloc: Global, elf: &[u8]) -> Result<Kernel<Plain, Noting, M>, Fail>
-    ensures { IfOk result (λ kernel. (kernel.whole ≡ true) × (kernel.turns ≡ 0)) }
+pub fn noted<const M: u8>(alloc: Global, elf: &[u8]) -> Result<Kernel<Plain, Noting, M>, Fail>
+    ensures { IfOk result (λ kernel. HasNoTurn kernel) }
 {
     let (tree, user) = listed(alloc, HOST, elf)?;
     let places = Plain::new();

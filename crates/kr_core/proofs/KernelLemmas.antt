@@ -6,7 +6,6 @@ use Rattle.std.specs.Option.{option_map}
 use Rattle.std.proofs.lemmas.Option.{same_Some, slice_get-map}
 use Rattle.kr_turns.specs.kr_view.View.{Row}
 use Rattle.kr_first.specs.kr_model.Lawful.{ArePids, RiseFrom}
-use Rattle.kr_first.specs.kr_model.State as model
 use Rattle.kr_first.specs.kr_model.State.{Image, Process, image_layout, is_pid, process}
 use Rattle.kr_turns.proofs.law_lawful.SumLemmas.{other-test}
 use Rattle.kr_turns.specs.kr_ops.declared.state.State.{State}
@@ -16,6 +15,7 @@ use Rattle.kr_turns.proofs.kr_seen.LookLemmas.{known-numbered, process-numbered}
 use Rattle.kr_turns.proofs.kr_seen.StepLemmas.{passing-numbered}
 use Rattle.kr_turns.specs.Steps.{Runs, goes_on, picked_process, ready_processes, still_waits}
 use Rattle.kr_turns.proofs.NumberLemmas.{picked-process-numbered}
+use Rattle.kr_core.specs.Kernel.{IsPicked, Kernel, Picks}
 
 -- ---- the process that is picked
 
@@ -40,37 +40,31 @@ module _ {T : Type 0} (next : ℕ) (test : Process T Image → Bool) where
       by rest true (suc k) e = later (rest k e)
       by rest false k e = later (rest k e)
 
--- where a number was picked, it is that of a process that lives, which is the one that is picked
-pub record Picks {T : Type 0} {M : ℕ} (number : T → ℕ) (s : State T M) (pick pid : ℕ) : Type 0 where
-  pub process : Process T Image
-  pub lives : model.process pid (meaning s) ≡ Some process
-  pub picked : picked_process (state_numbered number (meaning s)) pick ≡ Some (process_numbered number process)
-  pub found : model.process pid (state_numbered number (meaning s)) ≡ Some (process_numbered number process)
+-- where a number was picked, it is that of a process that lives, which is the one that is picked; where none was, none is
+module _ {P S T : Type 0} {M : ℕ} (number : T → ℕ) (k : Kernel P S T M) (pick : ℕ) where
+  none-picked : (o : Option (Process T Image)) → option_map (λ (p : Process T Image). p.pid) o ≡ None → option_map (process_numbered number) o ≡ None
+  none-picked None e = refl
+  none-picked (Some p) e = absurd cc
 
-module _ {T : Type 0} {M : ℕ} (number : T → ℕ) (s : State T M) (pick : ℕ) where
-  pub picks : (pid : ℕ) → ArePids (meaning s) → option_map (λ (p : Process T Image). p.pid) (picked_process (meaning s) pick) ≡ Some pid → Picks number s pick pid
-  picks pid pids e = by (picked_process (meaning s) pick) refl e
-    where
-      by : (o : Option (Process T Image)) → picked_process (meaning s) pick ≡ o → option_map (λ (p : Process T Image). p.pid) o ≡ Some pid → Picks number s pick pid
-      by None is e = absurd cc
-      by (Some p) is e =
-          let own : p.pid ≡ pid = same_Some p.pid pid e in
-          let at = found-of (meaning s).next_pid (goes_on (meaning s)) 2 (meaning s).living (pick % length (ready_processes (meaning s))) p pids.living is in
-          let lives : process pid (meaning s) ≡ Some p = subst (λ n. process n (meaning s) ≡ Some p) own at.1 in
-          record {
-            process = p;
-            lives = lives;
-            picked = picked-process-numbered number (meaning s) pick ∙ ap (option_map (process_numbered number)) is;
-            found = process-numbered number pid (meaning s) ∙ ap (option_map (process_numbered number)) lives;
-          }
+  one-picked : (pid : ℕ) → ArePids (meaning k.state) → (o : Option (Process T Image)) → picked_process (meaning k.state) pick ≡ o → option_map (λ (p : Process T Image). p.pid) o ≡ Some pid → Picks number pick pid k
+  one-picked pid pids None is e = absurd cc
+  one-picked pid pids (Some p) is e =
+      let own : p.pid ≡ pid = same_Some p.pid pid e in
+      let at = found-of (meaning k.state).next_pid (goes_on (meaning k.state)) 2 (meaning k.state).living (pick % length (ready_processes (meaning k.state))) p pids.living is in
+      let lives : process pid (meaning k.state) ≡ Some p = subst (λ n. process n (meaning k.state) ≡ Some p) own at.1 in
+      record {
+        own = process_numbered number p;
+        picked = picked-process-numbered number (meaning k.state) pick ∙ ap (option_map (process_numbered number)) is;
+        lives = process-numbered number pid (meaning k.state) ∙ ap (option_map (process_numbered number)) lives;
+        same = own;
+      }
 
-  -- and where none was, none is picked
-  pub picks-none : option_map (λ (p : Process T Image). p.pid) (picked_process (meaning s) pick) ≡ None → picked_process (state_numbered number (meaning s)) pick ≡ None
-  picks-none e = picked-process-numbered number (meaning s) pick ∙ by (picked_process (meaning s) pick) e
-    where
-      by : (o : Option (Process T Image)) → option_map (λ (p : Process T Image). p.pid) o ≡ None → option_map (process_numbered number) o ≡ None
-      by None e = refl
-      by (Some p) e = absurd cc
+  is-picked : ArePids (meaning k.state) → (told : Option ℕ) → told ≡ option_map (λ (p : Process T Image). p.pid) (picked_process (meaning k.state) pick) → IsPicked number pick k told
+  is-picked pids None e = picked-process-numbered number (meaning k.state) pick ∙ none-picked (picked_process (meaning k.state) pick) (sym e)
+  is-picked pids (Some pid) e = one-picked pid pids (picked_process (meaning k.state) pick) refl (sym e)
+
+  pub picked-told : (own : Kernel P S T M) → k ≡ own → ArePids (meaning k.state) → (told : Option ℕ) → told ≡ option_map (λ (p : Process T Image). p.pid) (picked_process (meaning k.state) pick) → IsPicked number pick own told
+  picked-told own is pids told e = subst (λ (k : Kernel P S T M). IsPicked number pick k told) is (is-picked pids told e)
 
 -- ---- the processes that live
 

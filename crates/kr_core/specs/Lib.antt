@@ -17,5 +17,9 @@ pub use Rattle.kr_turns.specs.kr_steps as kr_steps
 pub use Rattle.kr_turns.specs as kr_turns
 pub use Rattle.kr_turns.specs.kr_stops as kr_stops
 pub use Rattle.kr_first.specs.kr_start as kr_start
+pub mod Between
+pub mod Moving
+pub mod Standing
 pub mod Kernel
+pub mod Stepping
 pub mod Runs

@@ -1,22 +1,27 @@
 -- A step by relations that are graphs of functions on a part of what a watcher keeps is the step by the functions on that part.
 use Rattle.std.proofs.Common.{◌≡◌, ℕ, Bool, List, Option, Some, None, sym, ap, ◌∙◌}
-use Rattle.kr_turns.specs.rv_cpu.declared.event.Event.{Event}
-use Rattle.kr_turns.specs.rv_cpu.declared.event.Event.TheVariants.{Next, Call, Killed}
-use Rattle.kr_turns.specs.rv_cpu.Run.{Ran, ran}
-use Rattle.kr_turns.specs.kr_view.View.{Row}
-use Rattle.kr_turns.specs.kr_model.State.{Image, Process, State}
-use Rattle.kr_turns.specs.Breaking.{plain_rule}
-use Rattle.kr_turns.specs.PlainCall.{Came, plain_call}
-use Rattle.kr_turns.specs.Turn.{IsBorn, Machine, Tally, after_born, calling, with_broken, with_part}
-use Rattle.kr_turns.specs.kr_stops.Stopped.{Stopped}
-use Rattle.kr_turns.specs.kr_stops.Watching.{IsGraph, Watcher, Watching}
-use Rattle.kr_turns.specs.kr_stops.declared.handed.Handed.{Handed}
-use Rattle.kr_turns.specs.declared.plain.CallEnd.{CallEnd}
-use Rattle.kr_turns.specs.declared.plain.CallEnd.TheVariants as end
-use Rattle.kr_loose.specs.Between.{AtCall, Between, Done, Entered, Paused, between_of}
-use Rattle.kr_loose.specs.CallSteps.{After, Carried, IsCarriedBy, IsCarriedOut, IsEntered, IsExited, carried_by, carried_out, entered, exited}
+use Rattle.kr_core.specs.kr_turns.rv_cpu.declared.event.Event.{Event}
+use Rattle.kr_core.specs.kr_turns.rv_cpu.declared.event.Event.TheVariants.{Next, Call, Killed}
+use Rattle.kr_core.specs.kr_turns.rv_cpu.Run.{Ran, ran}
+use Rattle.kr_core.specs.kr_turns.kr_view.View.{Row}
+use Rattle.kr_core.specs.kr_turns.kr_model.State.{Image, Process, State}
+use Rattle.kr_core.specs.kr_turns.Breaking.{plain_rule}
+use Rattle.kr_core.specs.kr_turns.PlainCall.{Came, plain_call}
+use Rattle.kr_core.specs.kr_turns.Turn.{IsBorn, Machine, Tally, after_born, calling, with_broken, with_part}
+use Rattle.kr_core.specs.kr_turns.kr_stops.Stopped.{Stopped}
+use Rattle.kr_core.specs.kr_turns.kr_stops.Watching.{IsGraph, Watcher, Watching}
+use Rattle.kr_core.specs.kr_turns.kr_stops.declared.handed.Handed.{Handed}
+use Rattle.kr_core.specs.kr_turns.declared.plain.CallEnd.{CallEnd}
+use Rattle.kr_core.specs.kr_turns.declared.plain.CallEnd.TheVariants as end
+use Rattle.kr_core.specs.kr_turns.declared.steps.After.{After}
+use Rattle.kr_core.specs.kr_turns.CallSteps.{Carried, IsCarriedBy, IsCarriedOut, IsEntered, IsExited, carried_by, carried_out, entered, exited}
+use Rattle.kr_core.specs.Between.{between_of}
+use Rattle.kr_core.specs.Moving.{IsAfterInstructions, IsMoved, Moved, StepKind, after_instructions, computing, moved, plainly_moved}
+use Rattle.kr_core.specs.declared.paused.Between.{Between}
+use Rattle.kr_core.specs.declared.paused.Between.TheVariants.{AtCall, Done, Entered}
+use Rattle.kr_core.specs.declared.paused.Paused.{Paused}
 use Rattle.kr_loose.specs.Laws.{StepsAreFunctions}
-use Rattle.kr_loose.specs.LooseRun.{IsAfterInstructions, IsMoved, Moved, StepKind, after_instructions, computing, loose_part, moved, moved_part, noted, plainly_moved, step_of}
+use Rattle.kr_loose.specs.LooseRun.{loose_part, moved_part, noted, step_of}
 
 from-parts : {Q : Type 0} (m : Machine Q) {s : State ℕ Image} {x : Q} {n : Tally} → m.state ≡ s → m.watcher ≡ x → m.tally ≡ n → m ≡ record { state = s; watcher = x; tally = n }
 from-parts m e h k = λ j. record { state = e j; watcher = h j; tally = k j }

@@ -1,19 +1,22 @@
 -- The definitions, evaluated.
 use Rattle.std.proofs.Common.{◌≡◌, ℕ, List, [], ◌∷◌, ◌++◌, Some, None, true, false, refl, map, replicate}
 use Rattle.std.proofs.lemmas.List.Elements.{All-head, All-nil}
-use Rattle.kr_turns.specs.rv_mem.Memory.{Memory}
-use Rattle.kr_turns.specs.kr_model.kr_inode.declared.user.User.{User}
-use Rattle.kr_turns.specs.kr_model.kr_files.Descriptors.{Meanings}
-use Rattle.kr_turns.specs.kr_model.kr_files.Files.{Table}
-use Rattle.kr_turns.specs.kr_model.kr_tree.Tree.{Tree}
-use Rattle.kr_turns.specs.kr_model.kr_tree.declared.place.Place.{Place}
-use Rattle.kr_turns.specs.kr_model.Judged.{HasShape}
-use Rattle.kr_turns.specs.kr_model.State.{Image, Process}
-use Rattle.kr_turns.specs.kr_stops.Stopped.{nothing_handed}
-use Rattle.kr_turns.specs.kr_stops.Watching.{unwatched}
-use Rattle.kr_turns.specs.Turn.{Machine}
-use Rattle.kr_loose.specs.Between.{AtCall, Done, Entered, Paused, between_of, paused_at, unpaused}
-use Rattle.kr_loose.specs.LooseRun.{Loose, Step, StepKind, step, Instructions, Entry, Plain, Exit}
+use Rattle.kr_core.specs.kr_turns.rv_mem.Memory.{Memory}
+use Rattle.kr_core.specs.kr_turns.kr_model.kr_inode.declared.user.User.{User}
+use Rattle.kr_core.specs.kr_turns.kr_model.kr_files.Descriptors.{Meanings}
+use Rattle.kr_core.specs.kr_turns.kr_model.kr_files.Files.{Table}
+use Rattle.kr_core.specs.kr_turns.kr_model.kr_tree.Tree.{Tree}
+use Rattle.kr_core.specs.kr_turns.kr_model.kr_tree.declared.place.Place.{Place}
+use Rattle.kr_core.specs.kr_turns.kr_model.Judged.{HasShape}
+use Rattle.kr_core.specs.kr_turns.kr_model.State.{Image, Process}
+use Rattle.kr_core.specs.kr_turns.kr_stops.Stopped.{nothing_handed}
+use Rattle.kr_core.specs.kr_turns.kr_stops.Watching.{unwatched}
+use Rattle.kr_core.specs.kr_turns.Turn.{Machine}
+use Rattle.kr_core.specs.Between.{between_of, paused_at, unpaused}
+use Rattle.kr_core.specs.Moving.{StepKind, Instructions, Entry, Plain, Exit}
+use Rattle.kr_core.specs.declared.paused.Between.TheVariants.{AtCall, Done, Entered}
+use Rattle.kr_core.specs.declared.paused.Paused.{Paused}
+use Rattle.kr_loose.specs.LooseRun.{Loose, Step, step}
 use Rattle.kr_loose.specs.Quiet.{AreUndisturbed, LeavesFor, others_since_entry}
 use Rattle.kr_loose.specs.Slots.{slots_of_steps}
 

@@ -1,21 +1,10 @@
 -- What the definitions of loose runs have in common with those of turns.
 use Rattle.std.specs.Prelude.{◌≡◌, ℕ, List, Some, None}
-use Rattle.kr_turns.specs.kr_view.View.{Row}
-use Rattle.kr_turns.specs.kr_model.State.{Image, Process}
-use Rattle.kr_turns.specs.Steps.{picked_process}
-use Rattle.kr_turns.specs.Turn.{IsWatchedCall, Machine, watched_call}
-use Rattle.kr_turns.specs.kr_stops.Watching.{IsGraph, Watcher, Watching}
-use Rattle.kr_loose.specs.CallSteps.{AreThreeSteps, three_steps}
+use Rattle.kr_core.specs.kr_turns.kr_view.View.{Row}
+use Rattle.kr_core.specs.kr_turns.kr_model.State.{Image, Process}
+use Rattle.kr_core.specs.kr_turns.Steps.{picked_process}
+use Rattle.kr_core.specs.kr_turns.kr_stops.Watching.{IsGraph, Watcher, Watching}
 use Rattle.kr_loose.specs.LooseRun.{IsStepOf, Loose, loose_part, step}
-
--- the call of a turn is its three steps, made one after the other
-abbrev pub CallsAreThreeSteps : Type 0 → Type 0
-CallsAreThreeSteps S = (watcher : Watcher S) (marks : ℕ) (table : List Row) (pid : ℕ) (m : Machine S) → watched_call watcher marks table pid m ≡ three_steps watcher marks table pid m
-
--- and so it is where the watcher is a relation
-pub record WatchedCallsAreThreeSteps {S : Type 0} (w : Watching S) : Type 0 where
-  pub parted : (marks : ℕ) (table : List Row) (pid : ℕ) (old new : Machine S) → IsWatchedCall w marks table pid old new → AreThreeSteps w marks table pid old new
-  pub joined : (marks : ℕ) (table : List Row) (pid : ℕ) (old new : Machine S) → AreThreeSteps w marks table pid old new → IsWatchedCall w marks table pid old new
 
 -- where the relations of a watcher are the graphs of functions on a part of what it keeps, a step by the relations is the step by the
 -- functions on that part; and where no process is ready nothing changes

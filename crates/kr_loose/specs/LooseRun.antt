@@ -1,34 +1,18 @@
 -- A loose run: a run by single steps, between which other processes may go on. A step is some instructions of a process, or the first
 -- stop of its call, or the call itself, or its second stop.
-use Rattle.std.specs.Prelude.{◌≡◌, ℕ, zero, suc, ◌+◌, ◌-◌, ◌==◌, Bool, false, List, [], ◌∷◌, map, Option, Some, None}
+use Rattle.std.specs.Prelude.{◌≡◌, ℕ, zero, suc, List, [], ◌∷◌, map, Option, Some, None}
 use Rattle.std.specs.Option.{option_map_or}
-use Rattle.kr_turns.specs.rv_mem.Memory.{Memory}
-use Rattle.kr_turns.specs.rv_mem.declared.regs.Regs.{Regs}
-use Rattle.kr_turns.specs.rv_cpu.Run.{ran}
-use Rattle.kr_turns.specs.rv_cpu.declared.event.Event.{Event}
-use Rattle.kr_turns.specs.rv_cpu.declared.event.Event.TheVariants.{Next, Call, Killed}
-use Rattle.kr_turns.specs.kr_view.View.{Row}
-use Rattle.kr_turns.specs.kr_model.kr_calls.Arguments.{number}
-use Rattle.kr_turns.specs.kr_model.State.{Image, Process, State}
-use Rattle.kr_turns.specs.Breaking.{idle_rule, killed_rule}
-use Rattle.kr_turns.specs.Run.{Ending, Put, Slot, Spent, after_put, ending_of, put_by}
-use Rattle.kr_turns.specs.Shelving.{lacks_in}
-use Rattle.kr_turns.specs.Steps.{picked_process}
-use Rattle.kr_turns.specs.Turn.{Machine, Tally, killed, with_broken, with_part, with_status}
-use Rattle.kr_turns.specs.kr_stops.Stopped.{computed, image_in}
-use Rattle.kr_turns.specs.kr_stops.Watching.{Watcher, Watching}
-use Rattle.kr_loose.specs.Between.{Begun, Between, AtCall, Entered, Done, Paused, between_of, paused_at, unpaused}
-use Rattle.kr_loose.specs.CallSteps.{After, Waiting, Behind, Gone, Carried, IsCarriedOut, IsEntered, IsExited, carried_out, entered, exited}
+use Rattle.kr_core.specs.kr_turns.kr_view.View.{Row}
+use Rattle.kr_core.specs.kr_turns.kr_model.State.{Image, Process}
+use Rattle.kr_core.specs.kr_turns.Run.{Ending, Put, Slot, Spent, after_put, ending_of, put_by}
+use Rattle.kr_core.specs.kr_turns.Steps.{picked_process}
+use Rattle.kr_core.specs.kr_turns.Turn.{Machine, with_part}
+use Rattle.kr_core.specs.kr_turns.kr_stops.Watching.{Watcher, Watching}
+use Rattle.kr_core.specs.Between.{between_of}
+use Rattle.kr_core.specs.Moving.{IsMoved, Moved, StepKind, moved}
+use Rattle.kr_core.specs.declared.paused.Paused.{Paused}
 
 -- ---- steps that were made
-
--- what a step did: so many instructions, of which one that kills counts and a call doesn't; the first stop of a call; a call, of which
--- is told whether it was execve(2) before its first stop; or the second stop
-pub data StepKind : Type 0 where
-  Instructions : ℕ → StepKind
-  Entry : StepKind
-  Plain : Bool → StepKind
-  Exit : StepKind
 
 -- a step with its pick, the process that was picked, and the machine before and after
 pub record Step (S : Type 0) : Type 0 where
@@ -47,12 +31,6 @@ pub record Loose (S : Type 0) : Type 0 where
 abbrev pub loosened : {S : Type 0} → Machine S → Loose S
 loosened m = record { machine = m; paused = []; steps = [] }
 
--- what a step does and leaves
-pub record Moved (S : Type 0) : Type 0 where
-  pub kind : StepKind
-  pub machine : Machine S
-  pub paused : List Paused
-
 -- ---- the same with a part of what the watcher keeps
 
 module _ {S Q : Type 0} (part : S → Q) where
@@ -65,30 +43,7 @@ module _ {S Q : Type 0} (part : S → Q) where
   abbrev pub loose_part : Loose S → Loose Q
   loose_part l = record { machine = with_part part l.machine; paused = l.paused; steps = map step_part l.steps }
 
--- ---- a step
-
--- whether the call at which a process stands is execve(2)
-abbrev pub calls_execve : ℕ → State ℕ Image → Bool
-calls_execve pid s = number (image_in pid s).regs == 221
-
--- where a call leaves its caller
-abbrev pub paused_after : ℕ → After → List Paused → List Paused
-paused_after pid Waiting paused = paused
-paused_after pid (Behind handed) paused = paused_at pid (Done handed) paused
-paused_after pid Gone paused = unpaused pid paused
-
--- what is kept of a call from its first stop on
-abbrev pub begun_by : (marks pid : ℕ) → State ℕ Image → Begun
-begun_by marks pid s = record { no_shelf = lacks_in marks pid s; exec = calls_execve pid s }
-
 module _ {S : Type 0} where
-  -- a process did some instructions
-  abbrev pub computing : Process ℕ Image → Regs → Memory → Machine S → Machine S
-  computing p regs memory m = record { state = computed p.pid regs memory m.state; watcher = m.watcher; tally = m.tally }
-
-  abbrev pub plainly_moved : ℕ → Bool → Carried S → List Paused → Moved S
-  plainly_moved pid exec carried paused = record { kind = Plain exec; machine = carried.machine; paused = paused_after pid carried.after paused }
-
   -- a step of a process, noted
   abbrev pub noted : (pick pid : ℕ) → Moved S → Loose S → Loose S
   noted pick pid made l = record {
@@ -97,44 +52,9 @@ module _ {S : Type 0} where
     steps = record { pick = pick; pid = pid; kind = made.kind; before = l.machine; after = made.machine } ∷ l.steps;
   }
 
-module _ {S : Type 0} (marks : ℕ) (table : List Row) where
-  -- so many instructions alone, or behind them a call
-  abbrev pub idle_moved : (pid done : ℕ) → Machine S → List Paused → Moved S
-  idle_moved pid done m paused = record {
-    kind = Instructions done;
-    machine = record { state = m.state; watcher = m.watcher; tally = with_broken (idle_rule marks table pid false m.state) m.tally };
-    paused = paused;
-  }
-
-  abbrev pub call_met : (pid done : ℕ) → Machine S → List Paused → Moved S
-  call_met pid done m paused = record { kind = Instructions (done - 1); machine = m; paused = paused_at pid AtCall paused }
-
-  -- what is told where one of them kills
-  abbrev pub tally_killed : (pid signal : ℕ) → Machine S → Tally
-  tally_killed pid signal m = with_status (128 + signal) (with_broken (killed_rule marks table pid signal m.state) m.tally)
-
 -- ---- with a watcher that is a function
 
 module _ {S : Type 0} (watcher : Watcher S) (marks : ℕ) (table : List Row) where
-  -- after so many instructions, the last of which may be a call
-  abbrev pub after_instructions : (pid done : ℕ) → Event → Machine S → List Paused → Moved S
-  after_instructions pid done Next m paused = idle_moved marks table pid done m paused
-  after_instructions pid done Call m paused = call_met marks table pid done m paused
-  after_instructions pid done (Killed signal) m paused = record {
-    kind = Instructions done;
-    machine = record { state = killed pid signal m.state; watcher = watcher.gone m.watcher pid; tally = tally_killed marks table pid signal m };
-    paused = paused;
-  }
-
-  -- by where the process stands
-  abbrev pub moved : ℕ → Process ℕ Image → Option Between → Machine S → List Paused → Moved S
-  moved fuel p None m paused =
-      let end = ran fuel p.image.regs p.image.memory in
-      after_instructions p.pid end.done end.event (computing p end.regs end.memory m) paused
-  moved fuel p (Some AtCall) m paused = record { kind = Entry; machine = entered watcher marks p.pid m; paused = paused_at p.pid (Entered (begun_by marks p.pid m.state)) paused }
-  moved fuel p (Some (Entered begun)) m paused = plainly_moved p.pid begun.exec (carried_out watcher marks table p.pid begun.no_shelf m) paused
-  moved fuel p (Some (Done handed)) m paused = record { kind = Exit; machine = exited watcher p.pid handed m; paused = unpaused p.pid paused }
-
   -- of the process that is picked; where none is ready nothing changes
   abbrev pub step_of : (pick fuel : ℕ) → Option (Process ℕ Image) → Loose S → Loose S
   step_of pick fuel None l = l
@@ -146,28 +66,6 @@ module _ {S : Type 0} (watcher : Watcher S) (marks : ℕ) (table : List Row) whe
 -- ---- the same with one that is a relation
 
 module _ {S : Type 0} (watching : Watching S) (marks : ℕ) (table : List Row) where
-  abbrev pub IsAfterInstructions : (pid done : ℕ) → Event → Machine S → List Paused → Moved S → Type 0
-  IsAfterInstructions pid done Next m paused made = made ≡ idle_moved marks table pid done m paused
-  IsAfterInstructions pid done Call m paused made = made ≡ call_met marks table pid done m paused
-  IsAfterInstructions pid done (Killed signal) m paused made =
-      (made.kind ≡ Instructions done) × (made.machine.state ≡ killed pid signal m.state) × watching.forgets m.watcher pid made.machine.watcher
-      × (made.machine.tally ≡ tally_killed marks table pid signal m) × (made.paused ≡ paused)
-
-  -- a call that was carried out
-  pub record IsPlainlyMoved (pid : ℕ) (begun : Begun) (m : Machine S) (paused : List Paused) (made : Moved S) : Type 0 where
-    pub carried : Carried S
-    pub calls : IsCarriedOut watching marks table pid begun.no_shelf m carried
-    pub leaves : made ≡ plainly_moved pid begun.exec carried paused
-
-  abbrev pub IsMoved : ℕ → Process ℕ Image → Option Between → Machine S → List Paused → Moved S → Type 0
-  IsMoved fuel p None m paused made =
-      let end = ran fuel p.image.regs p.image.memory in
-      IsAfterInstructions p.pid end.done end.event (computing p end.regs end.memory m) paused made
-  IsMoved fuel p (Some AtCall) m paused made =
-      (made.kind ≡ Entry) × IsEntered watching marks p.pid m made.machine × (made.paused ≡ paused_at p.pid (Entered (begun_by marks p.pid m.state)) paused)
-  IsMoved fuel p (Some (Entered begun)) m paused made = IsPlainlyMoved p.pid begun m paused made
-  IsMoved fuel p (Some (Done handed)) m paused made = (made.kind ≡ Exit) × IsExited watching p.pid handed m made.machine × (made.paused ≡ unpaused p.pid paused)
-
   pub record IsStepOf (pick fuel : ℕ) (p : Process ℕ Image) (old new : Loose S) : Type 0 where
     pub made : Moved S
     pub moves : IsMoved fuel p (between_of p.pid old.paused) old.machine old.paused made

@@ -1,14 +1,15 @@
 -- Quiet runs: what was told at the first stop of a call holds still as the call is carried out.
 use Rattle.std.specs.Prelude.{◌≡◌, ℕ, ◌==◌, Bool, true, false, not, ◌&&◌, List, [], ◌∷◌, if◌then◌else◌}
 use Rattle.std.specs.List.{All, filter}
-use Rattle.kr_turns.specs.kr_view.View.{Row}
-use Rattle.kr_turns.specs.kr_model.Judged.{HasShape}
-use Rattle.kr_turns.specs.Breaking.{nothing_reached}
-use Rattle.kr_turns.specs.PlainCall.{plain_reach}
-use Rattle.kr_turns.specs.Turn.{calling}
-use Rattle.kr_turns.specs.kr_stops.Stopped.{Stopped}
-use Rattle.kr_turns.specs.law_steady.Bytes.{HasBytes}
-use Rattle.kr_loose.specs.LooseRun.{Step, StepKind, Instructions, Entry, Plain, Exit}
+use Rattle.kr_core.specs.kr_turns.kr_view.View.{Row}
+use Rattle.kr_core.specs.kr_turns.kr_model.Judged.{HasShape}
+use Rattle.kr_core.specs.kr_turns.Breaking.{nothing_reached}
+use Rattle.kr_core.specs.kr_turns.PlainCall.{plain_reach}
+use Rattle.kr_core.specs.kr_turns.Turn.{calling}
+use Rattle.kr_core.specs.kr_turns.kr_stops.Stopped.{Stopped}
+use Rattle.kr_core.specs.kr_turns.law_steady.Bytes.{HasBytes}
+use Rattle.kr_core.specs.Moving.{StepKind, Instructions, Entry, Plain, Exit}
+use Rattle.kr_loose.specs.LooseRun.{Step}
 
 -- ---- what others do during a call
 

@@ -1,8 +1,9 @@
 -- The run by turns that stands for a loose run: a turn of as many instructions as were done for each step that did some, and a turn of
 -- one for each call that was carried out, those that waited too.
 use Rattle.std.specs.Prelude.{ℕ, zero, suc, List, [], ◌∷◌, ◌++◌, get_or}
-use Rattle.kr_turns.specs.Run.{Slot}
-use Rattle.kr_loose.specs.LooseRun.{Step, StepKind, Instructions, Entry, Plain, Exit}
+use Rattle.kr_core.specs.kr_turns.Run.{Slot}
+use Rattle.kr_core.specs.Moving.{StepKind, Instructions, Entry, Plain, Exit}
+use Rattle.kr_loose.specs.LooseRun.{Step}
 
 abbrev pub slots_of_kind : ℕ → StepKind → List Slot
 slots_of_kind pick (Instructions zero) = []

@@ -1,5 +1,5 @@
 //! A process that dies of an instruction.
-ghost use Rattle.std.specs.Prelude.{ℕ, suc, List, OnOk};
+ghost use Rattle.std.specs.Prelude.{ℕ, List, OnOk};
 ghost use Rattle.kr_perform.specs.Calling.{Runs};
 ghost use Rattle.kr_perform.specs.kr_model.Change.{End};
 ghost use Rattle.kr_perform.specs.kr_ops.Making.{Makes};
@@ -18,7 +18,7 @@ pub fn kill<T: Copy, const M: u8>(
 ) -> Result<(), NoMemory>
     requires { IsOfViewFor pid state.old }
     ensures ends { OnOk result (Makes pid (End signal) state.old state.new) }
-    ensures runs { OnOk result ((number : T → ℕ) (table : List Row) (calls : ℕ) → Runs number table calls state.old → Runs number table (suc calls) state.new) }
+    ensures runs { OnOk result ((number : T → ℕ) (table : List Row) (calls : ℕ) → Runs number table calls state.old → Runs number table calls state.new) }
 {
     state.end(pid, u32::from(signal))
 }

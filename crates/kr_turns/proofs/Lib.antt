@@ -15,11 +15,14 @@ pub mod HereLemmas
 pub mod NumberLemmas
 pub mod PlainLemmas
 pub mod JoinLemmas
+pub mod StepLemmas
 pub mod BreakLemmas
 pub mod JudgeLemmas
 pub mod NotedLemmas
 pub mod ShelfLemmas
 pub mod TargetLemmas
-pub mod TurnLemmas
+pub mod ApartLemmas
+pub mod MakingLemmas
+pub mod WaitingLemmas
 pub mod AlteringLemmas
 pub mod AgreeLemmas

@@ -28,7 +28,7 @@ use Rattle.kr_steps.specs.Computing.{computed}
 use Rattle.kr_steps.specs.Settling.{settled}
 use Rattle.kr_steps.specs.Waiting.{goes_on, picked_process, still_waits}
 
-some-of-map : {A B : Type 0} (f : A → B) (o : Option A) → IsSome (option_map f o) → IsSome o
+pub some-of-map : {A B : Type 0} (f : A → B) (o : Option A) → IsSome (option_map f o) → IsSome o
 some-of-map f None h = h
 some-of-map f (Some x) h = refl
 

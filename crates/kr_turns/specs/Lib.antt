@@ -27,6 +27,7 @@ pub mod Looking
 pub mod Noting
 pub mod Coming
 pub mod Turn
+pub mod CallSteps
 pub mod Making
 pub mod Run
 pub mod Laws

@@ -1,5 +1,5 @@
 use Rattle.kr_loose.proofs.JoinLemmas.{steps-are-functions}
-use Rattle.kr_turns.specs.kr_stops.Watching.{watching}
+use Rattle.kr_core.specs.kr_turns.kr_stops.Watching.{watching}
 use Rattle.kr_loose.proofs.laws.steps_are_functions.Goals as goal
 
 pub returns : goal.returns

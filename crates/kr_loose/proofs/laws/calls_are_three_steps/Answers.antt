@@ -1,5 +1,0 @@
-use Rattle.kr_loose.proofs.StepLemmas.{calls-are-three-steps}
-use Rattle.kr_loose.proofs.laws.calls_are_three_steps.Goals as goal
-
-pub returns : goal.returns
-returns g c = calls-are-three-steps _
