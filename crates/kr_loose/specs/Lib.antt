@@ -6,4 +6,5 @@ pub use Rattle.kr_core.specs.kr_turns.law_steady as law_steady
 pub mod LooseRun
 pub mod Slots
 pub mod Quiet
+pub mod Going
 pub mod Laws
