@@ -1,4 +1,4 @@
-//! Tests of a kernel: which stops a watcher of its calls has.
+//! Tests of a kernel: which stops a watcher of its calls has, and which steps a process makes.
 #![tactic(auto)]
 
 #[cfg(test)]
@@ -9,5 +9,7 @@ mod run;
 mod stage;
 #[cfg(test)]
 mod start;
+#[cfg(test)]
+mod stepped;
 #[cfg(test)]
 mod watched;

@@ -63,7 +63,7 @@ const WATCHED: &[(&str, &str)] = &[
 ];
 
 /// A child dies of ebreak; its parent waits for it, asks for the notes and puts them out.
-const EBREAK: &[u32] = &[
+pub const EBREAK: &[u32] = &[
     0x0dc0_0893, // addi a7, zero, 220
     0x0110_0513, // addi a0, zero, 17
     0x0000_0593, // addi a1, zero, 0
@@ -90,7 +90,7 @@ const EBREAK: &[u32] = &[
 ];
 
 /// A kernel over that listing whose calls are noted; its input is `abcd`.
-fn noted<const M: u8>(alloc: Global, elf: &[u8]) -> Result<Kernel<Plain, Noting, M>, Fail>
+pub fn noted<const M: u8>(alloc: Global, elf: &[u8]) -> Result<Kernel<Plain, Noting, M>, Fail>
     ensures { IfOk result (λ kernel. HasNoTurn kernel) }
 {
     let (tree, user) = listed(alloc, HOST, elf)?;

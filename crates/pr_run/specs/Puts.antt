@@ -1,5 +1,5 @@
 -- What is put of a run: all of it, or what stands where a sink failed or memory ran out.
-use Rattle.std.specs.Prelude.{◌≡◌, ◌≢◌, ◌⊎◌, ℕ, suc, ◌-◌, true, List, [], ◌++◌, take, slice_get, Some, None, Result, Ok, Err}
+use Rattle.std.specs.Prelude.{◌≡◌, ◌≢◌, ◌≤◌, ◌⊎◌, ℕ, suc, ◌-◌, true, List, [], ◌++◌, take, slice_get, Some, None, Result, Ok, Err}
 use Rattle.pr_sources.specs.pr_io.Drawn.{Received, SinkFailed}
 use Rattle.pr_sources.specs.pr_io.Moves.{Gets, GetsPrefix, Stays}
 use Rattle.kr_core.specs.kr_view.View.{Row}
@@ -80,11 +80,13 @@ module _ {S : Type 0} (does : Watcher S) (marks : ℕ) (table : List Row) where
   MakesTurn slot old new out err (Ok turned.Over) = (ending_of old ≡ Some Over) × (new ≡ old) × GotNone out × GotNone err
   MakesTurn slot old new out err (Err stop) = StopsMaking old (put_by (after_slot slot old)) out err stop
 
--- a kernel that goes on after a turn
+-- a kernel that goes on after a turn, all of whose processes run
 pub record Continues {P S T : Type 0} {M : ℕ} (turns : ℕ) (old new : Kernel P S T M) : Type 0 where
   pub whole : new.whole ≡ true
   pub places : new.places ≡ old.places
   pub turns_are : new.turns ≡ turns
+  pub running : new.paused ≡ []
+  pub calls : new.calls ≤ suc old.calls
 
 abbrev pub GoesOn : {P S T : Type 0} {M : ℕ} → Turned → Kernel P S T M → Kernel P S T M → Type 0
 GoesOn turned.Ran old new = Continues (suc old.turns) old new

@@ -1,5 +1,5 @@
 -- The slots of the turns of a run, what a plan of one keeps, and the run.
-use Rattle.std.specs.Prelude.{ℕ, ◌≡◌, ◌≤◌, ◌<◌, ◌^◌, true, List, [], ◌∷◌, map}
+use Rattle.std.specs.Prelude.{ℕ, ◌≤◌, ◌<◌, ◌^◌, List, [], ◌∷◌, map}
 use Rattle.std.specs.List.{All}
 use Rattle.kr_core.specs.kr_view.View.{Row}
 use Rattle.kr_core.specs.Kernel.{Kernel, machine_by}
@@ -19,11 +19,6 @@ slot_of (s ∷ slots) made = cycle (slot_told s) (map slot_told slots) made
 pub record IsPlan (plan : Plan) : Type 0 where
   pub turns : plan.turns < 2 ^ 31
   pub schedule : All (λ s. 1 ≤ s.fuel) plan.schedule
-
--- a kernel before its first turn
-pub record HasNoTurn {P S T : Type 0} {M : ℕ} (k : Kernel P S T M) : Type 0 where
-  pub whole : k.whole ≡ true
-  pub first : k.turns ≡ 0
 
 -- that of a kernel by its plan, of the part of what its watcher keeps on which the watcher's functions act
 module _ {P S Q T : Type 0} {M : ℕ} (part : S → Q) (does : Watcher Q) (mounts : P → List Row) (number : T → ℕ) where

@@ -3,10 +3,11 @@ ghost use Rattle.std.specs.Prelude.{◌≡◌, IfOk};
 ghost use Rattle.std.specs.String.{string_bytes};
 ghost use Rattle.pr_sources.specs.pr_io.Drawn.{received};
 ghost use Rattle.pr_sources.specs.kr_text.Canonical.{canonical};
+ghost use Rattle.kr_core.specs.Kernel.{HasNoTurn};
 ghost use Rattle.pr_run.specs.Case.{agree, case_report_of, end_words, lines, status_by, summary, summary_lines, told_of, yes_or_no};
 ghost use Rattle.pr_run.specs.Keeping.{kept_told, puts_told, report_told};
 ghost use Rattle.pr_run.specs.Puts.{AnswersCase, PutsCase, end_told};
-ghost use Rattle.pr_run.specs.Slots.{HasNoTurn, IsPlan, run_of};
+ghost use Rattle.pr_run.specs.Slots.{IsPlan, run_of};
 
 use crate::keeping::{Kept, keep, output, same};
 use crate::plan::Plan;

@@ -1,12 +1,12 @@
 //! A run whose bytes are kept, turn after turn, so that it can be compared with another.
 ghost use Rattle.std.specs.Prelude.{◌≡◌, ◌≤◌, ◌<◌, ◌^◌, ◌↔◌, [], true, length, IfOk, OnOk, IsTrue};
-ghost use Rattle.kr_core.specs.Kernel.{Clears, machine, machine_by};
+ghost use Rattle.kr_core.specs.Kernel.{Clears, HasNoTurn, machine, machine_by};
 ghost use Rattle.kr_core.specs.kr_turns.Run.{put_by};
 ghost use Rattle.pr_run.specs.Case.{outcome};
 ghost use Rattle.pr_run.specs.Keeping.{KeepsTurn, kept_told, put_told, puts_told};
 ghost use Rattle.pr_run.specs.Puts.{GoesOn, end_told};
 ghost use Rattle.pr_run.specs.Report.{outs};
-ghost use Rattle.pr_run.specs.Slots.{HasNoTurn, IsPlan, run_of};
+ghost use Rattle.pr_run.specs.Slots.{IsPlan, run_of};
 
 use crate::laws::parts_turn;
 use crate::plan::Plan;
@@ -54,8 +54,10 @@ fn keep_turn<P: Places, S: Graphed, const M: u8>(
     puts: &mut Vec<Written>,
 ) -> Result<Turned, NoMemory>
     requires whole { kernel.old.whole ≡ true }
+    requires running { kernel.old.paused ≡ [] }
     requires fuel { 1 ≤ slot.fuel }
     requires few { kernel.old.turns < 2 ^ 31 }
+    requires few_calls { kernel.old.calls < 2 ^ 31 }
     ensures keeps { IfOk result (KeepsTurn S.does M (P.mounts kernel.old.places) slot (machine_by P.number S.part kernel.old) (machine_by P.number S.part kernel.new) (puts_told puts.old.items) (puts_told puts.new.items)) }
     ensures goes_on { IfOk result (λ turned. GoesOn turned kernel.old kernel.new) }
 {

@@ -1,11 +1,11 @@
 //! The report of a run.
 ghost use Rattle.std.specs.Prelude.{◌≡◌, ◌≤◌, IfOk};
 ghost use Rattle.pr_sources.specs.pr_io.Drawn.{received};
-ghost use Rattle.kr_core.specs.Kernel.{machine};
+ghost use Rattle.kr_core.specs.Kernel.{HasNoTurn, machine};
 ghost use Rattle.pr_sources.specs.kr_text.Canonical.{canonical};
 ghost use Rattle.pr_run.specs.Report.{answer_of, calm_line, calm_told, report_of};
 ghost use Rattle.pr_run.specs.Puts.{AnswersReport, PutsCalm, PutsListing, PutsReport, end_told};
-ghost use Rattle.pr_run.specs.Slots.{HasNoTurn, IsPlan, run_of};
+ghost use Rattle.pr_run.specs.Slots.{IsPlan, run_of};
 
 use crate::plan::Plan;
 use crate::turns::{End, Stop, put_some, run_turns};

@@ -3,11 +3,11 @@ ghost use Rattle.std.specs.Prelude.{◌≡◌, ◌≢◌, ◌<◌, ◌≤◌, �
 ghost use Rattle.pr_sources.specs.pr_io.Drawn.{received};
 ghost use Rattle.pr_sources.specs.pr_io.Faults.{Rose};
 ghost use Rattle.pr_sources.specs.pr_io.Moves.{Puts};
-ghost use Rattle.kr_core.specs.Kernel.{Clears, machine, machine_by};
+ghost use Rattle.kr_core.specs.Kernel.{Clears, HasNoTurn, machine, machine_by};
 ghost use Rattle.kr_core.specs.kr_turns.Run.{put_by};
 ghost use Rattle.pr_run.specs.Puts.{GoesOn, MakesTurn, PutsRun, PutsTurn, end_told};
 ghost use Rattle.pr_run.specs.Report.{last_ending};
-ghost use Rattle.pr_run.specs.Slots.{HasNoTurn, IsPlan, run_of};
+ghost use Rattle.pr_run.specs.Slots.{IsPlan, run_of};
 
 use crate::laws::parts_turn;
 use crate::plan::Plan;
@@ -99,8 +99,10 @@ fn make_turn<P: Places, S: Graphed, O: Sink, R: Sink, const M: u8>(
     err: &mut R,
 ) -> Result<Turned, Stop>
     requires whole { kernel.old.whole ≡ true }
+    requires running { kernel.old.paused ≡ [] }
     requires fuel { 1 ≤ slot.fuel }
     requires few { kernel.old.turns < 2 ^ 31 }
+    requires few_calls { kernel.old.calls < 2 ^ 31 }
     ensures makes { MakesTurn S.does M (P.mounts kernel.old.places) slot (machine_by P.number S.part kernel.old) (machine_by P.number S.part kernel.new) (received O.Sink out.old out.new) (received R.Sink err.old err.new) result }
     ensures goes_on { IfOk result (λ turned. GoesOn turned kernel.old kernel.new) }
     ensures out_count { O.faults out.old ≤ O.faults out.new }

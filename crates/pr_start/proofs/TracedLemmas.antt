@@ -26,6 +26,6 @@ begins-from places tracer reach answer (Ok k) starts =
       watcher = (sym b.stops_are i).tracing;
       tally = record { status = sym b.status i; broken = sym b.broken i };
     } in
-    (ap (λ (a : Result (State ℕ Image) Errno). and_then a (λ s. Ok (fresh tracer.tracing s))) starts.0 ∙ ap (λ (m : Machine Tracing). Ok m) same, b.turns, b.whole)
+    (ap (λ (a : Result (State ℕ Image) Errno). and_then a (λ s. Ok (fresh tracer.tracing s))) starts.0 ∙ ap (λ (m : Machine Tracing). Ok m) same, record { turns = b.turns; calls = b.calls; running = b.running; whole = b.whole })
 begins-from places tracer reach answer (Err (fault.Err e)) starts = ap (λ (a : Result (State ℕ Image) Errno). and_then a (λ s. Ok (fresh tracer.tracing s))) starts
 begins-from places tracer reach answer (Err fault.NoMemory) starts = tt

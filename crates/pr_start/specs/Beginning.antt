@@ -1,5 +1,5 @@
 -- The start of a run over mounts: the working directory, the command, and then the first process, which is that of execve(2).
-use Rattle.std.specs.Prelude.{◌≡◌, ℕ, true, false, List, [], ◌∷◌, Option, Some, None, Result, Ok, Err}
+use Rattle.std.specs.Prelude.{◌≡◌, ℕ, false, List, [], ◌∷◌, Option, Some, None, Result, Ok, Err}
 use Rattle.std.specs.List.{All}
 use Rattle.pt_tracer.specs.pr_base.declared.errno.Errno.{Errno}
 use Rattle.pt_tracer.specs.pr_base.declared.errno.Errno.TheVariants.{ENOENT}
@@ -17,7 +17,7 @@ use Rattle.kr_core.specs.kr_first.Starting.{start_of, start_reach}
 use Rattle.kr_core.specs.kr_turns.kr_calm.declared.rule.Rule.{Rule}
 use Rattle.kr_core.specs.Runs.{Machine}
 use Rattle.kr_core.specs.Kernel as kernel
-use Rattle.kr_core.specs.Kernel.{first_rule, machine}
+use Rattle.kr_core.specs.Kernel.{HasNoTurn, first_rule, machine}
 use Rattle.kr_core.specs.kr_mounts.declared.mount.Mount.{Mount}
 use Rattle.kr_core.specs.kr_mounts.declared.mounted.MountNumber.{MountNumber}
 use Rattle.pt_tracer.specs.pt_faker.declared.watch.Watch.{Watch}
@@ -61,7 +61,7 @@ module _ (table : List Row) (tree : Tree) (user : User) (watch : Watch) where
 
 -- a kernel begins as the definition says, before its first turn, or its error is answered, but for want of memory
 abbrev pub Begins : Result (Machine Watch) Errno → Result (kernel.Kernel (List Mount) Watch MountNumber 1) StartFault → Type 0
-Begins answer (Ok k) = (answer ≡ Ok (machine number_of k)) × (k.turns ≡ 0) × (k.whole ≡ true)
+Begins answer (Ok k) = (answer ≡ Ok (machine number_of k)) × HasNoTurn k
 Begins answer (Err (fault.Err e)) = answer ≡ Err e
 Begins answer (Err fault.NoMemory) = Unit {0}
 
@@ -79,6 +79,6 @@ told_with k rule = let m = machine number_of k in record { state = m.state; watc
 
 -- together they begin as the definition says
 abbrev pub BeginsUnmarked : Result (Machine Watch) Errno → Result (kernel.Kernel (List Mount) Watch MountNumber 0 × Option Rule) StartFault → Type 0
-BeginsUnmarked answer (Ok started) = (answer ≡ Ok (told_with started.0 started.1)) × (started.0.turns ≡ 0) × (started.0.whole ≡ true)
+BeginsUnmarked answer (Ok started) = (answer ≡ Ok (told_with started.0 started.1)) × HasNoTurn started.0
 BeginsUnmarked answer (Err (fault.Err e)) = answer ≡ Err e
 BeginsUnmarked answer (Err fault.NoMemory) = Unit {0}

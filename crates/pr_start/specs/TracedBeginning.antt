@@ -1,7 +1,7 @@
 -- The start of a run that a tracer watches: the working directory, the command and the program are found in guest terms, before a process
 -- lives; then the first process begins on the plain kernel, which is handed host texts.
 use Rattle.std.specs.FinMap as map
-use Rattle.std.specs.Prelude.{◌≡◌, ℕ, true, List, Option, None, Result, Ok, Err}
+use Rattle.std.specs.Prelude.{◌≡◌, ℕ, List, Option, None, Result, Ok, Err}
 use Rattle.pt_tracer.specs.pr_base.MountText.{MountText}
 use Rattle.pt_tracer.specs.pr_base.declared.errno.Errno.{Errno}
 use Rattle.pt_tracer.specs.kr_inode.declared.user.User.{User}
@@ -16,7 +16,7 @@ use Rattle.kr_core.specs.kr_first.declared.starting.StartFault.{StartFault}
 use Rattle.kr_core.specs.kr_first.declared.starting.StartFault.TheVariants as fault
 use Rattle.kr_core.specs.Runs.{Machine}
 use Rattle.kr_core.specs.Kernel as kernel
-use Rattle.kr_core.specs.Kernel.{machine_by}
+use Rattle.kr_core.specs.Kernel.{HasNoTurn, machine_by}
 use Rattle.pt_tracer.specs.pt_canon.TextWalk.{TextSurroundings}
 use Rattle.pt_first.specs.FirstPeeks.{first_peeked}
 use Rattle.pt_first.specs.GuestStart.{guest_start, tagged}
@@ -58,6 +58,6 @@ traced_machine k = machine_by host_number (λ keeping. keeping.tracing) k
 
 -- a kernel begins as the definition says, before its first turn, or its error is answered, but for want of memory
 abbrev pub BeginsTraced : Result (Machine Tracing) Errno → Result TracedKernel StartFault → Type 0
-BeginsTraced answer (Ok k) = (answer ≡ Ok (traced_machine k)) × (k.turns ≡ 0) × (k.whole ≡ true)
+BeginsTraced answer (Ok k) = (answer ≡ Ok (traced_machine k)) × HasNoTurn k
 BeginsTraced answer (Err (fault.Err e)) = answer ≡ Err e
 BeginsTraced answer (Err fault.NoMemory) = Unit {0}

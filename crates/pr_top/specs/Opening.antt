@@ -1,10 +1,11 @@
 -- The opening: the first refusal in the order of the words, the sources, the bindings and the start, or a run that begins. It is a function of
 -- the words and of the bytes that the sources gave; a generated case needs none.
-use Rattle.std.specs.Prelude.{◌≡◌, ◌⊎◌, ℕ, Bool, true, false, List, [], codes, Option, Some, None, IfOk, Result, Ok, Err, if◌then◌else◌}
+use Rattle.std.specs.Prelude.{◌≡◌, ◌⊎◌, ℕ, Bool, false, List, [], codes, Option, Some, None, IfOk, Result, Ok, Err, if◌then◌else◌}
 use Rattle.pr_start.specs.pr_base.declared.errno.Errno.{Errno}
 use Rattle.pr_start.specs.kr_tree.Tree.{Tree}
 use Rattle.pr_start.specs.kr_view.View.{Row, plain}
 use Rattle.pr_start.specs.kr_core.Kernel as kernel
+use Rattle.pr_start.specs.kr_core.Kernel.{HasNoTurn}
 use Rattle.pr_run.specs.kr_mounts.declared.mount.Mount.{Mount}
 use Rattle.pr_run.specs.kr_mounts.declared.mounted.MountNumber.{MountNumber}
 use Rattle.pr_start.specs.kr_start.declared.stage.Stage.{Stage as StageOfCode}
@@ -192,10 +193,10 @@ StartsAs expected (Err fault.NoMemory) = Unit {0}
 
 -- a kernel before its first turn
 abbrev pub IsFresh : Kind → Type 0
-IsFresh (kind.Mounts k) = (k.whole ≡ true) × (k.turns ≡ 0)
-IsFresh (kind.Unmarked k rule) = (k.whole ≡ true) × (k.turns ≡ 0)
-IsFresh (kind.Traced k) = (k.whole ≡ true) × (k.turns ≡ 0)
-IsFresh (kind.Both n watched mounted) = (watched.whole ≡ true) × (watched.turns ≡ 0) × (mounted.whole ≡ true) × (mounted.turns ≡ 0)
+IsFresh (kind.Mounts k) = HasNoTurn k
+IsFresh (kind.Unmarked k rule) = HasNoTurn k
+IsFresh (kind.Traced k) = HasNoTurn k
+IsFresh (kind.Both n watched mounted) = HasNoTurn watched × HasNoTurn mounted
 
 -- marks are kept where it is asked whether a run is calm
 abbrev pub IsMarkedFor : Bool → Kind → Type 0
@@ -243,11 +244,11 @@ mounted_by (Ok s) = begun_with s.table (mounted_start s)
 mounted_by (Err answer) = Err answer
 
 abbrev pub WatchesAs : Result (User × Machine Tracing) Answer → Result (User × TracedKernel) Answer → Type 0
-WatchesAs expected (Ok r) = (expected ≡ Ok (r.0, traced_machine r.1)) × (r.1.whole ≡ true) × (r.1.turns ≡ 0)
+WatchesAs expected (Ok r) = (expected ≡ Ok (r.0, traced_machine r.1)) × HasNoTurn r.1
 WatchesAs expected (Err answer) = (expected ≡ Err answer) ⊎ IsEarly answer
 
 abbrev pub MountsAs : Result (List Row × Machine Watch) Answer → Result MountedKernel Answer → Type 0
-MountsAs expected (Ok k) = (expected ≡ Ok (table_of k.places, machine number_of k)) × (k.whole ≡ true) × (k.turns ≡ 0)
+MountsAs expected (Ok k) = (expected ≡ Ok (table_of k.places, machine number_of k)) × HasNoTurn k
 MountsAs expected (Err answer) = (expected ≡ Err answer) ⊎ IsEarly answer
 
 -- answers of the bindings and the start

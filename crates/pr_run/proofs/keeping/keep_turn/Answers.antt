@@ -6,7 +6,7 @@ use Rattle.kr_core.specs.kr_turns.Run.{after_put, put_by}
 use Rattle.pr_run.specs.Keeping.{puts_told}
 use Rattle.pr_run.specs.Puts.{after_slot}
 use Rattle.pr_run.proofs.KeepLemmas.{told-push}
-use Rattle.pr_run.proofs.TurnLemmas.{forgotten, goes}
+use Rattle.pr_run.proofs.TurnLemmas.{forgotten, goes, goes-on-made}
 use Rattle.pr_run.proofs.keeping.keep_turn.Goals as goal
 
 pub returns-clause-keeps : goal.returns-clause-keeps
@@ -24,3 +24,13 @@ returns-clause-keeps g c =
       forgotten number part c.turn.new.self c.take_bytes.new.kernel c.in_ok-written.ensures.cleared ∙ ap after_put turned,
       ap puts_told c.in_ok-push.ensures.items ∙ told-push c.args.puts.now.items c.in_ok-written.written (put_by (after_slot g.S.Graphed.does g.row.M (g.P.Places.mounts c.args.kernel.now.places) c.args.slot m)) (c.in_ok-written.ensures.bytes ∙ ap put_by turned),
     )
+
+pub returns-clause-goes_on : goal.returns-clause-goes_on
+returns-clause-goes_on g c =
+    let number = g.P.Places.number in
+    let w = watching g.S.Stops.enters g.S.Stops.exits g.S.Stops.bears g.S.Stops.forgets in
+    let table = g.P.Places.mounts c.args.kernel.now.places in
+    let made : HasRun number w table c.args.slot.pick c.args.slot.fuel c.args.kernel.now c.turn.new.self =
+    subst (λ (t : Turned). Turns number w table c.args.slot.pick c.args.slot.fuel c.args.kernel.now c.turn.new.self t) c.in-Ok-Ran.field-0-is c.in-Ok-Ran.ensures.turns in
+    let told = c.in-Ok-Ran.ensures in
+    goes-on-made number c.args.slot.pick c.args.slot.fuel w table c.args.kernel.now c.turn.new.self c.take_bytes.new.kernel made told.whole told.running told.calls c.in_ok-written.ensures.cleared

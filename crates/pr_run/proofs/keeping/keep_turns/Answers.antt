@@ -128,6 +128,8 @@ loop-turn-preserved g c =
     record {
       whole_is = goes.whole;
       turns = goes.turns_are ∙ ap suc inv.turns ∙ one;
+      running = goes.running;
+      calls = omega (arith, goes.calls, inv.calls);
       places = goes.places ∙ inv.places;
       rest = subst (λ (n : Machine g.S.Graphed.Part). IsRest does g.row.M table slots whole limit (turn + 1) n) (sym new-is) (subst (λ k. IsRest does g.row.M table slots whole limit k (after_put (turned does g.row.M table slots turn m))) one more.rest);
       puts = kept.2 ∙ ap (λ ps. ps ++ put_by (after_slot does g.row.M (g.P.Places.mounts c.loop-turn.kernel.places) c.slot-slot.result m) ∷ []) inv.puts ∙ ap (λ (n : Machine g.S.Graphed.Part). take turn whole.puts ++ put_by n ∷ []) same ∙ sym more.on.taken ∙ ap (λ k. take k whole.puts) one;

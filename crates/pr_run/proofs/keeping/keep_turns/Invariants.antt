@@ -1,4 +1,4 @@
-use Rattle.std.proofs.Common.{◌≡◌, take, true}
+use Rattle.std.proofs.Common.{◌≡◌, ◌≤◌, [], take, true}
 use Rattle.kr_core.specs.Kernel.{machine_by}
 use Rattle.kr_core.specs.kr_turns.Run.{run}
 use Rattle.pr_run.specs.Keeping.{puts_told}
@@ -14,6 +14,8 @@ invariant-loop-turn g l =
     record {
       whole_is : l.kernel.whole ≡ true;
       turns : l.kernel.turns ≡ l.turn;
+      running : l.kernel.paused ≡ [];
+      calls : l.kernel.calls ≤ l.turn;
       places : l.kernel.places ≡ l.fn.kernel.places;
       rest : IsRest g.S.Graphed.does g.row.M table slots whole l.fn.plan.turns l.turn (machine_by g.P.Places.number g.S.Graphed.part l.kernel);
       puts : puts_told l.puts.items ≡ take l.turn whole.puts;

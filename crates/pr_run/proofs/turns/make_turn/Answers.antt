@@ -6,7 +6,7 @@ use Rattle.kr_core.specs.kr_stops.Watching.{watching}
 use Rattle.kr_core.specs.kr_turns.Run.{after_put, put_by}
 use Rattle.kr_core.specs.kr_turns.Turn.{Machine}
 use Rattle.pr_run.specs.Puts.{after_slot}
-use Rattle.pr_run.proofs.TurnLemmas.{forgotten, goes, stops-made}
+use Rattle.pr_run.proofs.TurnLemmas.{forgotten, goes, goes-on-made, stops-made}
 use Rattle.pr_run.proofs.turns.make_turn.Goals as goal
 
 pub returns-in_err-put_turn-clause-makes : goal.returns-in_err-put_turn-clause-makes
@@ -40,3 +40,13 @@ returns-clause-makes g c =
       subst (λ (t : Machine g.S.Graphed.Part). Gets (g.O.Sink.got c.args.out.now) (g.O.Sink.got c.put_turn.new.out) (put_by t).out) turned put.0,
       subst (λ (t : Machine g.S.Graphed.Part). Gets (g.R.Sink.got c.args.err.now) (g.R.Sink.got c.put_turn.new.err) (put_by t).err) turned put.1,
     )
+
+pub returns-clause-goes_on : goal.returns-clause-goes_on
+returns-clause-goes_on g c =
+    let number = g.P.Places.number in
+    let w = watching g.S.Stops.enters g.S.Stops.exits g.S.Stops.bears g.S.Stops.forgets in
+    let table = g.P.Places.mounts c.args.kernel.now.places in
+    let made : HasRun number w table c.args.slot.pick c.args.slot.fuel c.args.kernel.now c.turn.new.self =
+    subst (λ (t : Turned). Turns number w table c.args.slot.pick c.args.slot.fuel c.args.kernel.now c.turn.new.self t) c.in-Ok-Ran.field-0-is c.in-Ok-Ran.ensures.turns in
+    let told = c.in-Ok-Ran.ensures in
+    goes-on-made number c.args.slot.pick c.args.slot.fuel w table c.args.kernel.now c.turn.new.self c.put_turn.new.kernel made told.whole told.running told.calls c.in_ok-put_turn.ensures.cleared

@@ -130,6 +130,8 @@ loop-turn-preserved g c =
     record {
       whole_is = goes.whole;
       turns = goes.turns_are ∙ ap suc inv.turns ∙ one;
+      running = goes.running;
+      calls = omega (arith, goes.calls, inv.calls);
       places = goes.places ∙ inv.places;
       rest = subst (λ (n : Machine g.S.Graphed.Part). IsRest does g.row.M table slots whole limit (turn + 1) n) (sym new-is) (subst (λ k. IsRest does g.row.M table slots whole limit k (after_put (turned does g.row.M table slots turn m))) one more.rest);
       out = subst (λ k. Gets (g.O.Sink.got c.args.out.now) (g.O.Sink.got c.make_turn.new.out) (outs (take k whole.puts))) one (gets-next out_part turn whole.puts put (g.O.Sink.got c.args.out.now) (g.O.Sink.got c.loop-turn.out) (g.O.Sink.got c.make_turn.new.out) more.on.taken inv.out out_put);

@@ -1,0 +1,27 @@
+use Rattle.std.proofs.Common.{Some, ap, arith, ◌∙◌}
+use Rattle.kr_core.specs.declared.paused.Phase.{Phase}
+use Rattle.core_tests.proofs.stepped.step.Goals as goal
+
+pub run_pid-requires-clause-phase : goal.run_pid-requires-clause-phase
+run_pid-requires-clause-phase g c = c.requires.stands ∙ ap (λ (p : Phase). Some p) c.in-Running.is
+
+pub enter-requires-clause-phase : goal.enter-requires-clause-phase
+enter-requires-clause-phase g c = c.requires.stands ∙ ap (λ (p : Phase). Some p) c.in-AtCall.is
+
+pub plain-requires-clause-phase : goal.plain-requires-clause-phase
+plain-requires-clause-phase g c = c.requires.stands ∙ ap (λ (p : Phase). Some p) c.in-Entered.is
+
+pub leave-requires-clause-phase : goal.leave-requires-clause-phase
+leave-requires-clause-phase g c = c.requires.stands ∙ ap (λ (p : Phase). Some p) c.in-Done.is
+
+pub returns-in-Running-clause-calls : goal.returns-in-Running-clause-calls
+returns-in-Running-clause-calls g c = let same = c.in_ok-ran.ensures.moves.calls in omega arith
+
+pub returns-in-AtCall-clause-calls : goal.returns-in-AtCall-clause-calls
+returns-in-AtCall-clause-calls g c = let same = (c.in_ok-enter.ensures.moves 0).calls in omega arith
+
+pub returns-in-Entered-clause-calls : goal.returns-in-Entered-clause-calls
+returns-in-Entered-clause-calls g c = let same = (c.in_ok-over.ensures.moves 0).calls in omega arith
+
+pub returns-in-Done-clause-calls : goal.returns-in-Done-clause-calls
+returns-in-Done-clause-calls g c = let same = (c.in_ok-leave.ensures.moves 0).calls in omega arith
