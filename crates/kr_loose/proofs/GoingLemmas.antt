@@ -1,5 +1,5 @@
 -- A process that went on made a step of the loose run.
-use Rattle.std.proofs.Common.{◌≡◌, ◌≢◌, ℕ, List, [], ◌∷◌, Option, Some, None, refl, sym, ap, subst, ◌∙◌}
+use Rattle.std.proofs.Common.{◌≡◌, ◌≢◌, ◌≤◌, ℕ, suc, List, [], ◌∷◌, Option, Some, None, refl, sym, ap, subst, arith, ◌∙◌}
 use Rattle.std.specs.Prelude.{IsSome, length}
 use Rattle.std.specs.Option.{option_map}
 use Rattle.std.proofs.lemmas.Option.{same_Some}
@@ -9,8 +9,8 @@ use Rattle.kr_core.specs.kr_turns.Turn.{Machine}
 use Rattle.kr_core.specs.kr_turns.kr_stops.Watching.{Watching}
 use Rattle.kr_core.specs.Between.{between_of, phase_at}
 use Rattle.kr_core.specs.Kernel.{Kernel, Picks, machine, phase_of}
-use Rattle.kr_core.specs.Moving.{IsMoved, Moved, StepKind}
-use Rattle.kr_core.specs.Stepping.{HasMoved}
+use Rattle.kr_core.specs.Moving.{Entry, Exit, Instructions, IsMoved, Moved, Plain, StepKind}
+use Rattle.kr_core.specs.Stepping.{HasMoved, calls_after}
 use Rattle.kr_core.specs.declared.paused.Phase.{Phase}
 use Rattle.kr_loose.specs.Going.{HasGone, HasStepped}
 
@@ -25,6 +25,13 @@ has-phase number pid k lives none = by (process pid (machine number k).state) li
     by : (o : Option (Process ℕ Image)) → IsSome o → option_map (λ (p : Process ℕ Image). phase_at (between_of pid k.paused)) o ≡ None → ⊥
     by None lives none = absurd cc
     by (Some p) lives none = absurd cc
+
+-- a step carries out one call at most
+pub calls-grow : (kind : StepKind) (n m : ℕ) → m ≡ calls_after kind n → m ≤ suc n
+calls-grow (Instructions done) n m e = let is : m ≡ n = e in omega arith
+calls-grow Entry n m e = let is : m ≡ n = e in omega arith
+calls-grow (Plain exec) n m e = let is : m ≡ suc n = e in omega arith
+calls-grow Exit n m e = let is : m ≡ n = e in omega arith
 
 pub none-of : {A : Type 0} (xs : List A) → length xs ≡ 0 → xs ≡ []
 none-of [] e = refl

@@ -1,5 +1,5 @@
 //! A loose run of a kernel.
-ghost use Rattle.std.specs.Prelude.{◌≡◌, ◌≤◌, ◌<◌, ◌^◌, ℕ, true, IfOk, IsSome, OnOk};
+ghost use Rattle.std.specs.Prelude.{◌≡◌, ◌≤◌, ◌<◌, ◌^◌, ℕ, suc, true, IfOk, IsSome, OnOk};
 ghost use Rattle.kr_core.specs.Kernel.{Clears, HasNoTurn, machine, phase_of};
 ghost use Rattle.kr_core.specs.kr_turns.kr_model.State.{process};
 ghost use Rattle.kr_core.specs.kr_turns.kr_stops.Watching.{watching};
@@ -32,6 +32,7 @@ impl<P: Places, S: Stops, const MARKED: u8> Loose<P, S, MARKED> {
         requires few { self.old.kernel.calls < 2 ^ 31 }
         ensures steps { IfOk result (λ turned. Steps P.number (watching S.enters S.exits S.bears S.forgets) (P.mounts self.old.kernel.places) pick fuel self.old.kernel self.new.kernel turned) }
         ensures whole { OnOk result (self.new.kernel.whole ≡ true) }
+        ensures calls { OnOk result (self.new.kernel.calls ≤ suc self.old.kernel.calls) }
     {
         if self.kernel.living() == 0 {
             return Ok(Turned::Over);
