@@ -35,7 +35,7 @@ calls-grow Exit n m e = let is : m ≡ n = e in omega arith
 
 pub none-of : {A : Type 0} (xs : List A) → length xs ≡ 0 → xs ≡ []
 none-of [] e = refl
-none-of (x ∷ xs) e = absurd cc
+none-of (x ∷ xs) e = absurd (omega arith)
 
 pub some-of : {A : Type 0} (xs : List A) (n : ℕ) → n ≡ length xs → (n ≡ 0 → ⊥) → xs ≢ []
 some-of xs n told some = λ none. some (told ∙ ap length none)
