@@ -1,13 +1,13 @@
 -- What a watcher does to a stopped process edits it.
 use Rattle.std.proofs.Common.{◌≡◌, ℕ, List, refl, sym, ap, subst, ◌∙◌}
 use Rattle.std.specs.Prelude.{IsSome, slice_set}
-use Rattle.kr_core.specs.rv_mem.Memory.{after_read, with_pages}
-use Rattle.kr_core.specs.rv_mem.Pages.{written}
-use Rattle.kr_core.proofs.rv_mem.LayoutLemmas.{layouts_follow}
-use Rattle.kr_core.specs.kr_model.State.{process}
-use Rattle.kr_core.specs.kr_stops.Editing.{after_peek, after_poke, memory_at, with_register}
-use Rattle.kr_core.specs.kr_stops.Stopped.{IsEdited, IsThere, Stopped, edited, image_at}
-use Rattle.kr_core.proofs.kr_stops.EditLemmas.{computed-lives, edited-by, edited-same, edited-then, edited-twice}
+use Rattle.kr_loose.specs.rv_mem.Memory.{after_read, with_pages}
+use Rattle.kr_loose.specs.rv_mem.Pages.{written}
+use Rattle.kr_loose.proofs.rv_mem.LayoutLemmas.{layouts_follow}
+use Rattle.kr_loose.specs.kr_model.State.{process}
+use Rattle.kr_loose.specs.kr_stops.Editing.{after_peek, after_poke, memory_at, with_register}
+use Rattle.kr_loose.specs.kr_stops.Stopped.{IsEdited, IsThere, Stopped, edited, image_at}
+use Rattle.kr_loose.proofs.kr_stops.EditLemmas.{computed-lives, edited-by, edited-same, edited-then, edited-twice}
 
 pub unchanged : (t u : Stopped) → IsThere t → u ≡ t → IsEdited t u
 unchanged t u there same = subst (IsEdited t) (sym same) (edited-same t there)

@@ -2,16 +2,16 @@
 use Rattle.std.proofs.Common.{◌≡◌, ℕ, List, Option, Some, None, refl, lit<}
 use Rattle.std.specs.Prelude.{Ok}
 use Rattle.std.specs.Option.{option_map_or}
-use Rattle.kr_core.specs.kr_inode.declared.user.User.{User}
-use Rattle.kr_core.specs.kr_tree.Lawful.{IsKept}
-use Rattle.kr_core.specs.kr_tree.Tree.{Tree, Inode, inode}
-use Rattle.kr_core.specs.kr_text.Drawn.{IsDrawn}
-use Rattle.kr_core.specs.kr_text.Reading.{listing_of}
-use Rattle.kr_core.specs.kr_view.View.{plain}
-use Rattle.kr_core.proofs.kr_view.TableLemmas.{plain_stands}
-use Rattle.kr_core.proofs.law_allowed.SourceLemmas.{settled-are-named}
-use Rattle.kr_core.proofs.kr_start.ReadLemmas.{read-last}
-use Rattle.kr_core.specs.kr_start.Start.{HasNoHolds}
+use Rattle.kr_loose.specs.kr_inode.declared.user.User.{User}
+use Rattle.kr_loose.specs.kr_tree.Lawful.{IsKept}
+use Rattle.kr_loose.specs.kr_tree.Tree.{Tree, Inode, inode}
+use Rattle.kr_loose.specs.kr_text.Drawn.{IsDrawn}
+use Rattle.kr_loose.specs.kr_text.Reading.{listing_of}
+use Rattle.kr_loose.specs.kr_view.View.{plain}
+use Rattle.kr_loose.proofs.kr_view.TableLemmas.{plain_stands}
+use Rattle.kr_loose.proofs.law_allowed.SourceLemmas.{settled-are-named}
+use Rattle.kr_loose.proofs.kr_start.ReadLemmas.{read-last}
+use Rattle.kr_loose.specs.kr_start.Start.{HasNoHolds}
 use Rattle.core_tests.specs.Ready.{IsReady}
 
 -- in a tree that was read nothing is held

@@ -1,6 +1,9 @@
-//! Tests of a kernel: which stops a watcher of its calls has, and which steps a process makes.
+//! Tests of a kernel: which stops a watcher of its calls has, and which steps a process makes; and stops of several processes
+//! that come apart.
 #![tactic(auto)]
 
+#[cfg(test)]
+mod loosely;
 #[cfg(test)]
 mod noting;
 #[cfg(test)]

@@ -1,8 +1,8 @@
 //! A watcher that notes what it is told, and changes a few calls.
 ghost use Rattle.std.specs.Prelude.{◌≡◌};
-ghost use Rattle.kr_core.specs.kr_stops.Stopped.{IsEdited, IsThere};
+ghost use Rattle.kr_loose.specs.kr_stops.Stopped.{IsEdited, IsThere};
 
-use kr_core::below::{Bytes, NoMemory, Stops, StoreFault, Tracee, Use};
+use kr_loose::below::{Bytes, NoMemory, Stops, StoreFault, Tracee, Use};
 use std::alloc::Global;
 
 /// Registers by their numbers: the stack pointer, the first two arguments, the first of which is the answer, and the number of the call.

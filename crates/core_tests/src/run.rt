@@ -1,9 +1,8 @@
 //! Runs, and what is seen of them.
 ghost use Rattle.std.specs.Prelude.{◌≡◌, ◌<◌, ◌^◌};
-ghost use Rattle.kr_core.specs.Kernel.{HasNoTurn};
+ghost use Rattle.kr_loose.specs.kr_core.Kernel.{HasNoTurn};
 
-use kr_core::below::{Bytes, NoMemory, Places, Stops};
-use kr_core::{Kernel, Turned};
+use kr_loose::below::{Bytes, Kernel, NoMemory, Places, Stops, Turned};
 use std::alloc::Global;
 
 /// Adds what a turn put out, and forgets it.
@@ -22,7 +21,7 @@ fn note<P: Places, S: Stops, const M: u8>(
 }
 
 /// How a run ended, with its status, behind what was seen.
-fn ended(alloc: Global, seen: Bytes, how: &str, status: u8) -> Result<Bytes, NoMemory> {
+pub fn ended(alloc: Global, seen: Bytes, how: &str, status: u8) -> Result<Bytes, NoMemory> {
     let mut all = seen;
     let line = format!(in alloc; "{how} {status}")?;
     all.append(line.as_bytes())?;

@@ -1,10 +1,10 @@
 //! Trees over which kernels begin.
 ghost use Rattle.std.specs.Prelude.{IfOk};
-ghost use Rattle.kr_core.specs.kr_view.View.{plain};
+ghost use Rattle.kr_loose.specs.kr_view.View.{plain};
 ghost use Rattle.core_tests.specs.Ready.{IsReady};
 
 use guests::below::read;
-use kr_core::below::{Tree, User, trees_are_kept};
+use kr_loose::below::{Tree, User, trees_are_kept};
 use std::alloc::Global;
 use std::test::Fail;
 

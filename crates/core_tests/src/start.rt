@@ -1,10 +1,10 @@
 //! The start of a program, at the host's own view.
 ghost use Rattle.std.specs.Prelude.{◌≡◌, true, IfOk};
-ghost use Rattle.kr_core.specs.kr_first.Started.{LeadsToDirectory};
-ghost use Rattle.kr_core.specs.law_allowed.Texts.{IsText};
-ghost use Rattle.kr_core.specs.kr_view.View.{plain};
+ghost use Rattle.kr_loose.specs.kr_first.Started.{LeadsToDirectory};
+ghost use Rattle.kr_loose.specs.law_allowed.Texts.{IsText};
+ghost use Rattle.kr_loose.specs.kr_view.View.{plain};
 
-use kr_core::below::{Bytes, First, NoMemory, Plain, Reach, Texts, Tree, User, directory_at};
+use kr_loose::below::{Bytes, First, NoMemory, Plain, Reach, Texts, Tree, User, directory_at};
 use std::alloc::Global;
 use std::test::Fail;
 

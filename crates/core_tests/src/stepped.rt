@@ -1,11 +1,10 @@
 //! Guests that run by single steps: which steps come, and what a watcher notes of them. All of it was worked out by hand.
 ghost use Rattle.std.specs.Prelude.{◌≡◌, ◌≤◌, ◌<◌, ◌^◌, suc, true, Some, OnOk};
-ghost use Rattle.kr_core.specs.Kernel.{HasNoTurn, phase_of};
+ghost use Rattle.kr_loose.specs.kr_core.Kernel.{HasNoTurn, phase_of};
 
 use crate::watched::{EBREAK, noted};
 use guests::coded;
-use kr_core::below::{Bytes, NoMemory, Places, Stops};
-use kr_core::{Kernel, Phase};
+use kr_loose::below::{Bytes, Kernel, NoMemory, Phase, Places, Stops};
 use std::alloc::Global;
 use std::process::Abort;
 use std::test::Fail;

@@ -1,14 +1,13 @@
 //! Guests whose calls are watched: what is done at their stops, and which stops come. All of it was worked out by hand.
 ghost use Rattle.std.specs.Prelude.{IfOk};
-ghost use Rattle.kr_core.specs.Kernel.{HasNoTurn};
+ghost use Rattle.kr_loose.specs.kr_core.Kernel.{HasNoTurn};
 
 use crate::noting::Noting;
 use crate::run::run;
 use crate::stage::listed;
 use crate::start::asked;
 use guests::{coded, guest};
-use kr_core::Kernel;
-use kr_core::below::{Bytes, Plain};
+use kr_loose::below::{Bytes, Kernel, Plain};
 use std::alloc::Global;
 use std::process::Abort;
 use std::test::Fail;

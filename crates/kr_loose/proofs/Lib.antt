@@ -1,2 +1,8 @@
+pub use Rattle.kr_core.proofs.rv_mem as rv_mem
+pub use Rattle.kr_core.proofs.kr_view as kr_view
+pub use Rattle.kr_core.proofs.law_allowed as law_allowed
+pub use Rattle.kr_core.proofs.kr_stops as kr_stops
+pub use Rattle.kr_core.proofs.kr_start as kr_start
 pub mod JoinLemmas
+pub mod GoingLemmas
 pub mod LooseRows

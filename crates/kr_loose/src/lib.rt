@@ -2,14 +2,24 @@
 //!
 //! What is proved, with the law that carries it:
 //!
-//! Definitions and laws, and no code yet. A step of a loose run is some instructions of a process, or the first stop of its call, or the call
-//! itself, or its second stop (`LooseRun.antt`), as kr_core makes them. Where the relations of the watcher are graphs of functions a step is a
-//! function (`steps_are_functions`).
+//! A step of a loose run is some instructions of a process, or the first stop of its call, or the call itself, or its second stop
+//! (`LooseRun.antt`), as kr_core makes them. `Loose` is a kernel that goes by such steps: `step` makes exactly the definition's step of the process
+//! that is picked, whatever steps came before it (`steps`; `HasStepped`, `Going.antt`). Over comes exactly where no process lives, Deadlock exactly
+//! where one lives and none is ready, and both change nothing. It asks for fuel, for a kernel in which no memory was wanting, and for fewer than 2^31
+//! calls before it, to which it adds one at most (`calls`). `kernel` lends the kernel, and `clear_bytes` forgets the bytes that were put out and nothing
+//! else.
+//!
+//! Where the relations of the watcher are graphs of functions a step is a function (law `steps_are_functions`).
 //!
 //! A loose run stands for a run by turns (`Slots.antt`). It is quiet where what was told at the first stop of a call holds still as the call is
 //! carried out (`Quiet.antt`).
 //!
-//! Not shown: that a quiet loose run comes to what the run comes to for which it stands.
+//! Only tested, or not shown: `core_tests` shows the stops of several processes that come apart. That a quiet loose run comes to what the run comes
+//! to for which it stands isn't shown.
 #![tactic(auto)]
 
+pub mod below;
 pub mod laws;
+mod loose;
+
+pub use loose::Loose;

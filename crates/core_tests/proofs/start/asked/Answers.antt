@@ -1,10 +1,10 @@
 use Rattle.std.proofs.Common.{refl, sym, ap, subst, ◌∙◌}
 use Rattle.std.specs.Prelude.{IsSome}
 use Rattle.std.specs.Option.{option_map}
-use Rattle.kr_core.specs.kr_first.Starting.{directory_at}
-use Rattle.kr_core.specs.law_allowed.Texts.{IsText}
-use Rattle.kr_core.specs.kr_view.Leads.{numbered}
-use Rattle.kr_core.specs.kr_view.View.{plain}
+use Rattle.kr_loose.specs.kr_first.Starting.{directory_at}
+use Rattle.kr_loose.specs.law_allowed.Texts.{IsText}
+use Rattle.kr_loose.specs.kr_view.Leads.{numbered}
+use Rattle.kr_loose.specs.kr_view.View.{plain}
 use Rattle.core_tests.proofs.start.asked.Goals as goal
 
 pub returns-clause-text : goal.returns-clause-text

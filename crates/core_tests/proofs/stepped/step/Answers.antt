@@ -1,5 +1,5 @@
 use Rattle.std.proofs.Common.{Some, ap, arith, ◌∙◌}
-use Rattle.kr_core.specs.declared.paused.Phase.{Phase}
+use Rattle.kr_loose.specs.kr_core.declared.paused.Phase.{Phase}
 use Rattle.core_tests.proofs.stepped.step.Goals as goal
 
 pub run_pid-requires-clause-phase : goal.run_pid-requires-clause-phase
