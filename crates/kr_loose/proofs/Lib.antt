@@ -1,3 +1,10 @@
 pub mod StepLemmas
 pub mod JoinLemmas
 pub mod LooseRows
+pub mod UnmarkedLemmas
+pub mod PartingLemmas
+pub mod LivingLemmas
+pub mod MarkCallLemmas
+pub mod MarkTurnLemmas
+pub mod IdleLemmas
+pub mod WaitingLemmas

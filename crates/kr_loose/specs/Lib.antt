@@ -9,3 +9,6 @@ pub mod LooseRun
 pub mod Slots
 pub mod Quiet
 pub mod Laws
+pub mod Marks
+pub mod Parting
+pub mod WaitingCalls
