@@ -6,3 +6,10 @@ pub use Rattle.kr_core.proofs.kr_start as kr_start
 pub mod JoinLemmas
 pub mod GoingLemmas
 pub mod LooseRows
+pub mod UnmarkedLemmas
+pub mod PartingLemmas
+pub mod LivingLemmas
+pub mod MarkCallLemmas
+pub mod MarkTurnLemmas
+pub mod IdleLemmas
+pub mod WaitingLemmas

@@ -16,3 +16,6 @@ pub mod Slots
 pub mod Quiet
 pub mod Going
 pub mod Laws
+pub mod Marks
+pub mod Parting
+pub mod WaitingCalls

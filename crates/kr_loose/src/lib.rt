@@ -14,6 +14,12 @@
 //! A loose run stands for a run by turns (`Slots.antt`). It is quiet where what was told at the first stop of a call holds still as the call is
 //! carried out (`Quiet.antt`).
 //!
+//! Beside that there are laws on which a match of a loose run and the run that it stands for is to rest. Where no byte is marked, instructions that
+//! end with a call part at it (`Parting.antt`, `runs_part_at_calls`); and a kernel that keeps no marks never marks one, in turns and in steps, with a
+//! watcher that marks none at stops (`Marks.antt`, `turns_mark_nothing`, `loose_runs_mark_nothing` and the others of `marks`). A call that can wait has
+//! no path, and leaves all but that its caller stays at it where it comes to wait (`WaitingCalls.antt`, `waiting_calls_have_no_path`,
+//! `waits_leave_all`).
+//!
 //! Only tested, or not shown: `core_tests` shows the stops of several processes that come apart. That a quiet loose run comes to what the run comes
 //! to for which it stands isn't shown.
 #![tactic(auto)]
@@ -21,5 +27,8 @@
 pub mod below;
 pub mod laws;
 mod loose;
+pub mod marks;
+pub mod parting;
+pub mod waits;
 
 pub use loose::Loose;
