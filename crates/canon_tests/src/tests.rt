@@ -2,7 +2,8 @@
 //! worked out by hand.
 
 use crate::tables;
-use crate::walking::{Bench, Case, End, THERE, Want, listed, meets};
+use crate::walking::Want::{At, Refused};
+use crate::walking::{Bench, Case, End, THERE, listed, meets};
 use pt_results::below::{Bytes, Errno, Last, NoMemory, Request, Tags, WalkErr, WalkMode, Walker};
 use std::alloc::Global;
 use std::test::Fail;
@@ -44,222 +45,125 @@ const FREE_UP_SLASH: End = End(Last::DotDot, true, false);
 /// A directory is bound at `/mnt`.
 const ONE_BINDING: &[Case] = &[
     // Names.
-    (
-        b"/",
-        b"/mnt/n",
-        LOOK,
-        Want::At(b"/mnt/n", b"/data/n", 1, THERE),
-    ),
-    (
-        b"/",
-        b"mnt/n",
-        LOOK,
-        Want::At(b"/mnt/n", b"/data/n", 1, THERE),
-    ),
-    (
-        b"/mnt",
-        b"n",
-        LOOK,
-        Want::At(b"/mnt/n", b"/data/n", 1, THERE),
-    ),
-    (
-        b"/",
-        b"/mntx",
-        LOOK,
-        Want::At(b"/mntx", b"/g/mntx", 0, THERE),
-    ),
-    (b"/", b"/mnt", LOOK, Want::At(b"/mnt", b"/data", 1, THERE)),
+    (b"/", b"/mnt/n", LOOK, At(b"/mnt/n", b"/data/n", 1, THERE)),
+    (b"/", b"mnt/n", LOOK, At(b"/mnt/n", b"/data/n", 1, THERE)),
+    (b"/mnt", b"n", LOOK, At(b"/mnt/n", b"/data/n", 1, THERE)),
+    (b"/", b"/mntx", LOOK, At(b"/mntx", b"/g/mntx", 0, THERE)),
+    (b"/", b"/mnt", LOOK, At(b"/mnt", b"/data", 1, THERE)),
     (
         b"/",
         b"../../mnt/n",
         LOOK,
-        Want::At(b"/mnt/n", b"/data/n", 1, THERE),
+        At(b"/mnt/n", b"/data/n", 1, THERE),
     ),
     (
         b"/",
         b"//a/.//b/../b/f",
         LOOK,
-        Want::At(b"/a/b/f", b"/g/a/b/f", 0, THERE),
+        At(b"/a/b/f", b"/g/a/b/f", 0, THERE),
     ),
-    (b"/", b"/mnt/../f", LOOK, Want::At(b"/f", b"/g/f", 0, THERE)),
+    (b"/", b"/mnt/../f", LOOK, At(b"/f", b"/g/f", 0, THERE)),
     (
         b"/",
         b"/closed",
         LOOK,
-        Want::At(b"/closed", b"/g/closed", 0, THERE),
+        At(b"/closed", b"/g/closed", 0, THERE),
     ),
     // Errors.
-    (b"/", b"/mnt/z", LOOK, Want::Refused(Errno::ENOENT)),
-    (b"/", b"/z/..", LOOK, Want::Refused(Errno::ENOENT)),
-    (b"/", b"/z/x", NAME, Want::Refused(Errno::ENOENT)),
-    (b"/", b"/f/..", LOOK, Want::Refused(Errno::ENOTDIR)),
-    (b"/", b"/f/.", NAME, Want::Refused(Errno::ENOTDIR)),
-    (b"/", b"/closed/..", LOOK, Want::Refused(Errno::EACCES)),
-    (b"/", b"/closed/x", OPEN, Want::Refused(Errno::EACCES)),
-    (b"/z", b"..", LOOK, Want::Refused(Errno::ENOENT)),
-    (b"/f", b"n", NAME, Want::Refused(Errno::ENOTDIR)),
+    (b"/", b"/mnt/z", LOOK, Refused(Errno::ENOENT)),
+    (b"/", b"/z/..", LOOK, Refused(Errno::ENOENT)),
+    (b"/", b"/z/x", NAME, Refused(Errno::ENOENT)),
+    (b"/", b"/f/..", LOOK, Refused(Errno::ENOTDIR)),
+    (b"/", b"/f/.", NAME, Refused(Errno::ENOTDIR)),
+    (b"/", b"/closed/..", LOOK, Refused(Errno::EACCES)),
+    (b"/", b"/closed/x", OPEN, Refused(Errno::EACCES)),
+    (b"/z", b"..", LOOK, Refused(Errno::ENOENT)),
+    (b"/f", b"n", NAME, Refused(Errno::ENOTDIR)),
     // Endings, where something must be there.
-    (b"/", b"/", LOOK, Want::At(b"/", b"/g", 0, ROOT)),
-    (b"/mnt", b"", LOOK, Want::At(b"/mnt", b"/data", 1, ROOT)),
-    (b"/", b"/mnt/.", LOOK, Want::At(b"/mnt", b"/data", 1, DOT)),
-    (
-        b"/",
-        b"/mnt/./",
-        LOOK,
-        Want::At(b"/mnt", b"/data", 1, DOT_SLASH),
-    ),
-    (b"/", b"/mnt/..", LOOK, Want::At(b"/", b"/g", 0, UP)),
-    (b"/", b"/../", LOOK, Want::At(b"/", b"/g", 0, UP_SLASH)),
-    (
-        b"/",
-        b"/mnt/n",
-        LOOK,
-        Want::At(b"/mnt/n", b"/data/n", 1, THERE),
-    ),
-    (
-        b"/",
-        b"/mnt/",
-        LOOK,
-        Want::At(b"/mnt", b"/data", 1, THERE_SLASH),
-    ),
-    (b"/", b"/mnt/n/", LOOK, Want::Refused(Errno::ENOTDIR)),
-    (b"/", b"/mnt/z", LOOK, Want::Refused(Errno::ENOENT)),
-    (b"/", b"/mnt/z/", LOOK, Want::Refused(Errno::ENOENT)),
+    (b"/", b"/", LOOK, At(b"/", b"/g", 0, ROOT)),
+    (b"/mnt", b"", LOOK, At(b"/mnt", b"/data", 1, ROOT)),
+    (b"/", b"/mnt/.", LOOK, At(b"/mnt", b"/data", 1, DOT)),
+    (b"/", b"/mnt/./", LOOK, At(b"/mnt", b"/data", 1, DOT_SLASH)),
+    (b"/", b"/mnt/..", LOOK, At(b"/", b"/g", 0, UP)),
+    (b"/", b"/../", LOOK, At(b"/", b"/g", 0, UP_SLASH)),
+    (b"/", b"/mnt/", LOOK, At(b"/mnt", b"/data", 1, THERE_SLASH)),
+    (b"/", b"/mnt/n/", LOOK, Refused(Errno::ENOTDIR)),
+    (b"/", b"/mnt/z/", LOOK, Refused(Errno::ENOENT)),
     // Entries, there or free. Behind `.` and `..` the directory is the one in which these stand.
-    (b"/", b"/", OPEN, Want::At(b"/", b"/g", 0, FREE_ROOT)),
-    (
-        b"/mnt",
-        b"",
-        OPEN,
-        Want::At(b"/mnt", b"/data", 1, FREE_ROOT),
-    ),
-    (
-        b"/",
-        b"/mnt/.",
-        OPEN,
-        Want::At(b"/mnt", b"/data", 1, FREE_DOT),
-    ),
+    (b"/", b"/", OPEN, At(b"/", b"/g", 0, FREE_ROOT)),
+    (b"/mnt", b"", OPEN, At(b"/mnt", b"/data", 1, FREE_ROOT)),
+    (b"/", b"/mnt/.", OPEN, At(b"/mnt", b"/data", 1, FREE_DOT)),
     (
         b"/",
         b"/mnt/./",
         OPEN,
-        Want::At(b"/mnt", b"/data", 1, FREE_DOT_SLASH),
+        At(b"/mnt", b"/data", 1, FREE_DOT_SLASH),
     ),
-    (
-        b"/",
-        b"/mnt/..",
-        OPEN,
-        Want::At(b"/mnt", b"/data", 1, FREE_UP),
-    ),
-    (b"/", b"/../", OPEN, Want::At(b"/", b"/g", 0, FREE_UP_SLASH)),
-    (
-        b"/",
-        b"/mnt/n",
-        OPEN,
-        Want::At(b"/mnt/n", b"/data/n", 1, THERE),
-    ),
+    (b"/", b"/mnt/..", OPEN, At(b"/mnt", b"/data", 1, FREE_UP)),
+    (b"/", b"/../", OPEN, At(b"/", b"/g", 0, FREE_UP_SLASH)),
+    (b"/", b"/mnt/n", OPEN, At(b"/mnt/n", b"/data/n", 1, THERE)),
     (
         b"/",
         b"/mnt/n/",
         OPEN,
-        Want::At(b"/mnt/n", b"/data/n", 1, THERE_SLASH),
+        At(b"/mnt/n", b"/data/n", 1, THERE_SLASH),
     ),
-    (
-        b"/",
-        b"/mnt/z",
-        OPEN,
-        Want::At(b"/mnt/z", b"/data/z", 1, FREE),
-    ),
+    (b"/", b"/mnt/z", OPEN, At(b"/mnt/z", b"/data/z", 1, FREE)),
     (
         b"/",
         b"/mnt/z/",
         OPEN,
-        Want::At(b"/mnt/z", b"/data/z", 1, FREE_SLASH),
+        At(b"/mnt/z", b"/data/z", 1, FREE_SLASH),
     ),
-    (
-        b"/",
-        b"/mnty",
-        OPEN,
-        Want::At(b"/mnty", b"/g/mnty", 0, FREE),
-    ),
+    (b"/", b"/mnty", OPEN, At(b"/mnty", b"/g/mnty", 0, FREE)),
     // Links.
-    (b"/", b"/mnt/abs", LOOK, Want::At(b"/f", b"/g/f", 0, THERE)),
-    (b"/", b"/mnt/abs", OPEN, Want::At(b"/f", b"/g/f", 0, THERE)),
+    (b"/", b"/mnt/abs", LOOK, At(b"/f", b"/g/f", 0, THERE)),
+    (b"/", b"/mnt/abs", OPEN, At(b"/f", b"/g/f", 0, THERE)),
     (
         b"/",
         b"/mnt/abs",
         LINK,
-        Want::At(b"/mnt/abs", b"/data/abs", 1, THERE),
+        At(b"/mnt/abs", b"/data/abs", 1, THERE),
     ),
     (
         b"/",
         b"/mnt/abs",
         NAME,
-        Want::At(b"/mnt/abs", b"/data/abs", 1, THERE),
+        At(b"/mnt/abs", b"/data/abs", 1, THERE),
     ),
-    (b"/", b"/mnt/up", LOOK, Want::At(b"/f", b"/g/f", 0, THERE)),
-    (b"/", b"/mnt/out", LOOK, Want::At(b"/f", b"/g/f", 0, THERE)),
-    (
-        b"/",
-        b"/out",
-        LOOK,
-        Want::At(b"/mnt/n", b"/data/n", 1, THERE),
-    ),
-    (
-        b"/",
-        b"/in",
-        LOOK,
-        Want::At(b"/mnt/n", b"/data/n", 1, THERE),
-    ),
+    (b"/", b"/mnt/up", LOOK, At(b"/f", b"/g/f", 0, THERE)),
+    (b"/", b"/mnt/out", LOOK, At(b"/f", b"/g/f", 0, THERE)),
+    (b"/", b"/out", LOOK, At(b"/mnt/n", b"/data/n", 1, THERE)),
+    (b"/", b"/in", LOOK, At(b"/mnt/n", b"/data/n", 1, THERE)),
     (
         b"/",
         b"/mnt/dir/b/f",
         LOOK,
-        Want::At(b"/a/b/f", b"/g/a/b/f", 0, THERE),
+        At(b"/a/b/f", b"/g/a/b/f", 0, THERE),
     ),
     (
         b"/",
         b"/mnt/dir",
         LINK,
-        Want::At(b"/mnt/dir", b"/data/dir", 1, THERE),
+        At(b"/mnt/dir", b"/data/dir", 1, THERE),
     ),
     // A slash behind a link or behind its text, links that loop, and one to a free name.
-    (
-        b"/",
-        b"/mnt/dir",
-        LOOK,
-        Want::At(b"/a", b"/g/a", 0, THERE_SLASH),
-    ),
-    (
-        b"/",
-        b"/mnt/dir",
-        OPEN,
-        Want::At(b"/a", b"/g/a", 0, THERE_SLASH),
-    ),
-    (
-        b"/",
-        b"/mnt/dir/",
-        LINK,
-        Want::At(b"/a", b"/g/a", 0, THERE_SLASH),
-    ),
+    (b"/", b"/mnt/dir", LOOK, At(b"/a", b"/g/a", 0, THERE_SLASH)),
+    (b"/", b"/mnt/dir", OPEN, At(b"/a", b"/g/a", 0, THERE_SLASH)),
+    (b"/", b"/mnt/dir/", LINK, At(b"/a", b"/g/a", 0, THERE_SLASH)),
     (
         b"/",
         b"/mnt/dir/",
         NAME,
-        Want::At(b"/mnt/dir", b"/data/dir", 1, THERE_SLASH),
+        At(b"/mnt/dir", b"/data/dir", 1, THERE_SLASH),
     ),
-    (b"/", b"/empty", LOOK, Want::At(b"/", b"/g", 0, ROOT)),
-    (
-        b"/",
-        b"/mnt/lost",
-        OPEN,
-        Want::At(b"/mnt/z", b"/data/z", 1, FREE),
-    ),
-    (b"/", b"/mnt/lost", LOOK, Want::Refused(Errno::ENOENT)),
-    (b"/", b"/mnt/abs/", LINK, Want::Refused(Errno::ENOTDIR)),
-    (b"/", b"/out/x", LOOK, Want::Refused(Errno::ENOTDIR)),
-    (b"/", b"/loop", LOOK, Want::Refused(Errno::ELOOP)),
-    (b"/", b"/loop/x", NAME, Want::Refused(Errno::ELOOP)),
+    (b"/", b"/empty", LOOK, At(b"/", b"/g", 0, ROOT)),
+    (b"/", b"/mnt/lost", OPEN, At(b"/mnt/z", b"/data/z", 1, FREE)),
+    (b"/", b"/mnt/lost", LOOK, Refused(Errno::ENOENT)),
+    (b"/", b"/mnt/abs/", LINK, Refused(Errno::ENOTDIR)),
+    (b"/", b"/out/x", LOOK, Refused(Errno::ENOTDIR)),
+    (b"/", b"/loop", LOOK, Refused(Errno::ELOOP)),
+    (b"/", b"/loop/x", NAME, Refused(Errno::ELOOP)),
 ];
 
 /// Bindings stand in bindings, and processes have tags.
@@ -269,113 +173,83 @@ const BINDINGS_IN_BINDINGS: &[Case] = &[
         b"/",
         b"/mnt/x/n",
         LOOK,
-        Want::At(b"/mnt/x/n", b"/data/n", 4, THERE),
+        At(b"/mnt/x/n", b"/data/n", 4, THERE),
     ),
-    (
-        b"/",
-        b"/mnt/o",
-        LOOK,
-        Want::At(b"/mnt/o", b"/other/o", 2, THERE),
-    ),
-    (b"/", b"/b/../f", LOOK, Want::At(b"/f", b"/g/f", 0, THERE)),
-    (b"/", b"/b/abs", LOOK, Want::At(b"/f", b"/g/f", 0, THERE)),
+    (b"/", b"/mnt/o", LOOK, At(b"/mnt/o", b"/other/o", 2, THERE)),
+    (b"/", b"/b/../f", LOOK, At(b"/f", b"/g/f", 0, THERE)),
+    (b"/", b"/b/abs", LOOK, At(b"/f", b"/g/f", 0, THERE)),
     (
         b"/",
         b"/mnt/x/../o",
         LOOK,
-        Want::At(b"/mnt/o", b"/other/o", 2, THERE),
+        At(b"/mnt/o", b"/other/o", 2, THERE),
     ),
-    (b"/", b"/all", LOOK, Want::At(b"/all", b"/", 1, THERE)),
-    (
-        b"/",
-        b"/all/g/f",
-        LOOK,
-        Want::At(b"/all/g/f", b"/g/f", 1, THERE),
-    ),
-    (
-        b"/",
-        b"/mnt/x/..",
-        LOOK,
-        Want::At(b"/mnt", b"/other", 2, UP),
-    ),
-    (b"/", b"/all/..", LOOK, Want::At(b"/", b"/g", 0, UP)),
-    (b"/", b"/all/q", NAME, Want::At(b"/all/q", b"/q", 1, FREE)),
+    (b"/", b"/all", LOOK, At(b"/all", b"/", 1, THERE)),
+    (b"/", b"/all/g/f", LOOK, At(b"/all/g/f", b"/g/f", 1, THERE)),
+    (b"/", b"/mnt/x/..", LOOK, At(b"/mnt", b"/other", 2, UP)),
+    (b"/", b"/all/..", LOOK, At(b"/", b"/g", 0, UP)),
+    (b"/", b"/all/q", NAME, At(b"/all/q", b"/q", 1, FREE)),
     // Links of the process directory.
-    (
-        b"/",
-        b"/proc/1/cwd",
-        LOOK,
-        Want::At(b"/b", b"/data", 3, THERE),
-    ),
+    (b"/", b"/proc/1/cwd", LOOK, At(b"/b", b"/data", 3, THERE)),
     (
         b"/",
         b"/proc/self/cwd/n",
         LOOK,
-        Want::At(b"/b/n", b"/data/n", 3, THERE),
+        At(b"/b/n", b"/data/n", 3, THERE),
     ),
     (
         b"/",
         b"/proc/1/exe",
         OPEN,
-        Want::At(b"/mnt/x/n", b"/data/n", 4, THERE),
+        At(b"/mnt/x/n", b"/data/n", 4, THERE),
     ),
-    (b"/", b"/proc/1/root", LOOK, Want::At(b"/", b"/g", 0, THERE)),
-    (
-        b"/",
-        b"/proc/1/root/f",
-        LOOK,
-        Want::At(b"/f", b"/g/f", 0, THERE),
-    ),
-    (
-        b"/",
-        b"/proc/1/fd/3",
-        LOOK,
-        Want::At(b"/b", b"/data", 3, THERE),
-    ),
+    (b"/", b"/proc/1/root", LOOK, At(b"/", b"/g", 0, THERE)),
+    (b"/", b"/proc/1/root/f", LOOK, At(b"/f", b"/g/f", 0, THERE)),
+    (b"/", b"/proc/1/fd/3", LOOK, At(b"/b", b"/data", 3, THERE)),
     (
         b"/",
         b"/proc/1/fd/3/../f",
         LOOK,
-        Want::At(b"/f", b"/g/f", 0, THERE),
+        At(b"/f", b"/g/f", 0, THERE),
     ),
     (
         b"/",
         b"/proc/1/fd/4",
         LINK,
-        Want::At(b"/proc/1/fd/4", b"/proc/1/fd/4", 6, THERE),
+        At(b"/proc/1/fd/4", b"/proc/1/fd/4", 6, THERE),
     ),
     (
         b"/",
         b"/proc/1/cwd",
         NAME,
-        Want::At(b"/proc/1/cwd", b"/proc/1/cwd", 6, THERE),
+        At(b"/proc/1/cwd", b"/proc/1/cwd", 6, THERE),
     ),
     // A slash behind one, and those that lead nowhere: of what has no name, as a pipe, and by a tag of which none comes.
     (
         b"/",
         b"/proc/1/cwd/",
         LOOK,
-        Want::At(b"/b", b"/data", 3, THERE_SLASH),
+        At(b"/b", b"/data", 3, THERE_SLASH),
     ),
     (
         b"/",
         b"/proc/1/cwd/",
         LINK,
-        Want::At(b"/b", b"/data", 3, THERE_SLASH),
+        At(b"/b", b"/data", 3, THERE_SLASH),
     ),
     (
         b"/",
         b"/proc/1/exe/",
         OPEN,
-        Want::At(b"/mnt/x/n", b"/data/n", 4, THERE_SLASH),
+        At(b"/mnt/x/n", b"/data/n", 4, THERE_SLASH),
     ),
-    (b"/", b"/proc/1/exe/", LOOK, Want::Refused(Errno::ENOTDIR)),
-    (b"/", b"/proc/1/exe/x", LOOK, Want::Refused(Errno::ENOTDIR)),
-    (b"/", b"/proc/1/fd/4", LOOK, Want::Refused(Errno::ENOENT)),
-    (b"/", b"/proc/1/fd/4/x", LOOK, Want::Refused(Errno::ENOENT)),
-    (b"/", b"/proc/1/fd/5", OPEN, Want::Refused(Errno::ENOENT)),
-    (b"/", b"/proc/1/fd/6", LOOK, Want::Refused(Errno::ENOENT)),
-    (b"/", b"/proc/1/fd/7", LOOK, Want::Refused(Errno::ENOENT)),
+    (b"/", b"/proc/1/exe/", LOOK, Refused(Errno::ENOTDIR)),
+    (b"/", b"/proc/1/exe/x", LOOK, Refused(Errno::ENOTDIR)),
+    (b"/", b"/proc/1/fd/4", LOOK, Refused(Errno::ENOENT)),
+    (b"/", b"/proc/1/fd/4/x", LOOK, Refused(Errno::ENOENT)),
+    (b"/", b"/proc/1/fd/5", OPEN, Refused(Errno::ENOENT)),
+    (b"/", b"/proc/1/fd/6", LOOK, Refused(Errno::ENOENT)),
+    (b"/", b"/proc/1/fd/7", LOOK, Refused(Errno::ENOENT)),
 ];
 
 /// The tags of process 1: its working directory and descriptor 3 were found below `/b`, its executable below `/mnt/x`,
@@ -431,7 +305,7 @@ fn few_peeks_are_made(rt: HostRuntime) -> Result<(), Fail> {
         path.append(b"./")?;
     }
     let answer = bench.walk(b"/", path.as_slice(), LOOK);
-    assert!(rt; meets(&answer, Want::At(b"/", b"/g", 0, DOT_SLASH)));
+    assert!(rt; meets(&answer, At(b"/", b"/g", 0, DOT_SLASH)));
     Ok(())
 }
 
@@ -472,7 +346,7 @@ fn answers_are_remembered(rt: HostRuntime) -> Result<(), Fail> {
     let mut told = listed(rt.alloc())?;
     let tags = Tags::new(rt.alloc());
     let mut walker = Walker::new(rt.alloc(), table)?;
-    let wanted = Want::At(b"/f", b"/g/f", 0, THERE);
+    let wanted = At(b"/f", b"/g/f", 0, THERE);
     let first = walker.canon(&mut told, &tags, b"/", b"/f", LOOK);
     assert!(rt; meets(&first, wanted));
     assert!(rt; walker.remembered() == 1);
