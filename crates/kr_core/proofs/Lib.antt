@@ -4,6 +4,8 @@ pub use Rattle.kr_turns.proofs.rv_cpu as rv_cpu
 pub use Rattle.kr_first.proofs.kr_tree as kr_tree
 pub use Rattle.kr_first.proofs.kr_view as kr_view
 pub use Rattle.kr_first.proofs.kr_mounts as kr_mounts
+pub use Rattle.kr_turns.proofs.kr_calls as kr_calls
+pub use Rattle.kr_first.proofs.kr_model as kr_model
 pub use Rattle.kr_turns.proofs.law_lawful as law_lawful
 pub use Rattle.kr_first.proofs.law_allowed as law_allowed
 pub use Rattle.kr_turns.proofs.kr_seen as kr_seen

@@ -1,32 +1,32 @@
 -- Calls that come to wait have done nothing before: they changed nothing, and of the memory they only read.
 use Rattle.std.proofs.Common.{◌≡◌, ℕ, ◌+◌, ◌-◌, ◌*◌, ◌==◌, ◌&&◌, Bool, true, false, not, ℤ, List, [], ◌∷◌, length, take, drop, cond, nat_le, nat_lt, Option, Some, None, refl, ap, ◌∙◌}
 use Rattle.std.specs.List.{find, list_any}
-use Rattle.kr_turns.specs.pr_base.declared.errno.Errno.TheVariants.{EBADF, ECHILD, EFAULT, EFBIG, EINVAL, EISDIR, ENOSPC}
-use Rattle.kr_turns.specs.rv_mem.Actions.{CarriedOut, MayUse, ReadBytes, allows_uses, carried_out}
-use Rattle.kr_turns.specs.rv_mem.Memory.{Memory, after_read}
-use Rattle.kr_turns.specs.rv_mem.Pages.{bytes_from}
-use Rattle.kr_turns.specs.rv_mem.declared.rights.Use.{Use}
-use Rattle.kr_turns.specs.rv_mem.declared.rights.Use.TheVariants.{Read}
-use Rattle.kr_turns.specs.kr_model.kr_calls.CallTable.{sigpipe}
-use Rattle.kr_turns.specs.kr_model.kr_calls.declared.request.Request.{Request}
-use Rattle.kr_turns.specs.kr_model.kr_calls.declared.request.Request.TheVariants as call
-use Rattle.kr_turns.specs.kr_model.kr_files.declared.opened.Opened.{Opened}
-use Rattle.kr_turns.specs.kr_model.kr_files.declared.opened.What.{What}
-use Rattle.kr_turns.specs.kr_model.kr_files.declared.opened.What.TheVariants.{File, Dir, In, Out, Err, PipeRead, PipeWrite}
-use Rattle.kr_turns.specs.kr_model.Asking.{descriptor_number, of_number, or_closed}
-use Rattle.kr_turns.specs.kr_model.Change.{PutIntoPipe, Seek, TakeFromPipe, TakeInput, WriteErr, WriteOut}
-use Rattle.kr_turns.specs.kr_model.DescriptorRows.{open_bytes}
-use Rattle.kr_turns.specs.kr_model.FileRows.{if_readable, if_writable, is_dir, pipe_limit, put_in_file, read_pieces, read_pipe, read_what, write_file, write_pieces, write_pipe, write_place, write_what}
-use Rattle.kr_turns.specs.kr_model.Known.{Known}
-use Rattle.kr_turns.specs.kr_model.Laws.{may_wait}
-use Rattle.kr_turns.specs.kr_model.Operation.{operation}
-use Rattle.kr_turns.specs.kr_model.Pieces.{Piece, asked, cut_to, may_use_all, move_limit, one_piece, pieces_of, read_all, with_list}
-use Rattle.kr_turns.specs.kr_model.ProcessRows.{hangs_not, is_meant, wait_for}
-use Rattle.kr_turns.specs.kr_model.Reply.{Reply, Replying, done, ends, refuse, waits}
-use Rattle.kr_turns.specs.kr_model.Seen.{Seen}
-use Rattle.kr_turns.specs.kr_model.State.{Ended}
-use Rattle.kr_turns.specs.kr_model.declared.outcome.Outcome.TheVariants.{Wait}
-use Rattle.kr_turns.proofs.kr_steps.PieceLemmas.{NeverWaits, Waits, answered, either, handed_never, never, read_never, reaped_never, refused}
+use Rattle.kr_core.specs.pr_base.declared.errno.Errno.TheVariants.{EBADF, ECHILD, EFAULT, EFBIG, EINVAL, EISDIR, ENOSPC}
+use Rattle.kr_core.specs.rv_mem.Actions.{CarriedOut, MayUse, ReadBytes, allows_uses, carried_out}
+use Rattle.kr_core.specs.rv_mem.Memory.{Memory, after_read}
+use Rattle.kr_core.specs.rv_mem.Pages.{bytes_from}
+use Rattle.kr_core.specs.rv_mem.declared.rights.Use.{Use}
+use Rattle.kr_core.specs.rv_mem.declared.rights.Use.TheVariants.{Read}
+use Rattle.kr_core.specs.kr_calls.CallTable.{sigpipe}
+use Rattle.kr_core.specs.kr_calls.declared.request.Request.{Request}
+use Rattle.kr_core.specs.kr_calls.declared.request.Request.TheVariants as call
+use Rattle.kr_core.specs.kr_files.declared.opened.Opened.{Opened}
+use Rattle.kr_core.specs.kr_files.declared.opened.What.{What}
+use Rattle.kr_core.specs.kr_files.declared.opened.What.TheVariants.{File, Dir, In, Out, Err, PipeRead, PipeWrite}
+use Rattle.kr_core.specs.kr_model.Asking.{descriptor_number, of_number, or_closed}
+use Rattle.kr_core.specs.kr_model.Change.{PutIntoPipe, Seek, TakeFromPipe, TakeInput, WriteErr, WriteOut}
+use Rattle.kr_core.specs.kr_model.DescriptorRows.{open_bytes}
+use Rattle.kr_core.specs.kr_model.FileRows.{if_readable, if_writable, is_dir, pipe_limit, put_in_file, read_pieces, read_pipe, read_what, write_file, write_pieces, write_pipe, write_place, write_what}
+use Rattle.kr_core.specs.kr_model.Known.{Known}
+use Rattle.kr_core.specs.kr_model.Laws.{may_wait}
+use Rattle.kr_core.specs.kr_model.Operation.{operation}
+use Rattle.kr_core.specs.kr_model.Pieces.{Piece, asked, cut_to, may_use_all, move_limit, one_piece, pieces_of, read_all, with_list}
+use Rattle.kr_core.specs.kr_model.ProcessRows.{hangs_not, is_meant, wait_for}
+use Rattle.kr_core.specs.kr_model.Reply.{Reply, Replying, done, ends, refuse, waits}
+use Rattle.kr_core.specs.kr_model.Seen.{Seen}
+use Rattle.kr_core.specs.kr_model.State.{Ended}
+use Rattle.kr_core.specs.kr_model.declared.outcome.Outcome.TheVariants.{Wait}
+use Rattle.kr_core.proofs.kr_steps.PieceLemmas.{NeverWaits, Waits, answered, either, handed_never, never, read_never, reaped_never, refused}
 use Rattle.kr_loose.specs.Marks.{HasNoMarks}
 use Rattle.kr_loose.proofs.UnmarkedLemmas.{unread}
 

@@ -5,18 +5,18 @@ use Rattle.std.specs.Prelude.{map as map_list, slice_get, ◌==◌}
 use Rattle.std.specs.Int.{to_le_bytes, w32}
 use Rattle.std.specs.List.{AllByRecursion, filter, find}
 use Rattle.std.specs.Option.{option_map_or}
-use Rattle.kr_turns.specs.pr_base.Maps.{changed}
-use Rattle.kr_turns.specs.rv_mem.Memory.{Memory}
-use Rattle.kr_turns.specs.rv_mem.Pages.{Pages}
-use Rattle.kr_turns.specs.rv_mem.declared.regs.Regs.{Regs}
-use Rattle.kr_turns.specs.kr_model.kr_files.Descriptors.{Meanings, Named}
-use Rattle.kr_turns.specs.kr_model.kr_files.Files.{at_offset, with_append, with_opened}
-use Rattle.kr_turns.specs.kr_model.kr_tree.declared.place.Host.{Host}
-use Rattle.kr_turns.specs.kr_model.Applied.{Mounts, all_applied, applied, child_of, close, close_below, close_named, close_on_exec_below, copy_over, end, exe_after_removal, exe_after_rename, exe_remembers, executed, forked_from, gone, images, is_closed_on_exec, mount_of, moved_to, open_in, orphaned, pages_after, told, with_brk, with_cwd, with_exe, with_exe_name, with_files, with_image, with_living, with_parent, with_program, with_umask}
-use Rattle.kr_turns.specs.kr_model.Change.{AddNode, Birth, Change, ChangeDirectory, ChangePages, CloseDescriptor, CloseOnExec, CopyDescriptor, End, Fork, LinkNode, MakePipe, MapPages, MoveName, OpenFile, PageChange, ProtectPages, PutIntoPipe, Reap, RemoveName, ReplaceExecutable, ReplaceImage, Seek, SetAppend, SetBreak, SetCloexec, SetMode, SetOwner, SetSize, SetUmask, TakeFromPipe, TakeInput, UnmapPages, WriteErr, WriteFile, WriteOut}
-use Rattle.kr_turns.specs.kr_model.State.{Image, Process, State, at_pid, is_pid, named, process, with_descs, with_process}
-use Rattle.kr_turns.specs.kr_stops.Stopped.{computed}
-use Rattle.kr_turns.proofs.kr_steps.law_allowed.PieceLemmas.{all-append}
+use Rattle.kr_core.specs.pr_base.Maps.{changed}
+use Rattle.kr_core.specs.rv_mem.Memory.{Memory}
+use Rattle.kr_core.specs.rv_mem.Pages.{Pages}
+use Rattle.kr_core.specs.rv_mem.declared.regs.Regs.{Regs}
+use Rattle.kr_core.specs.kr_files.Descriptors.{Meanings, Named}
+use Rattle.kr_core.specs.kr_files.Files.{at_offset, with_append, with_opened}
+use Rattle.kr_core.specs.kr_tree.declared.place.Host.{Host}
+use Rattle.kr_core.specs.kr_model.Applied.{Mounts, all_applied, applied, child_of, close, close_below, close_named, close_on_exec_below, copy_over, end, exe_after_removal, exe_after_rename, exe_remembers, executed, forked_from, gone, images, is_closed_on_exec, mount_of, moved_to, open_in, orphaned, pages_after, told, with_brk, with_cwd, with_exe, with_exe_name, with_files, with_image, with_living, with_parent, with_program, with_umask}
+use Rattle.kr_core.specs.kr_model.Change.{AddNode, Birth, Change, ChangeDirectory, ChangePages, CloseDescriptor, CloseOnExec, CopyDescriptor, End, Fork, LinkNode, MakePipe, MapPages, MoveName, OpenFile, PageChange, ProtectPages, PutIntoPipe, Reap, RemoveName, ReplaceExecutable, ReplaceImage, Seek, SetAppend, SetBreak, SetCloexec, SetMode, SetOwner, SetSize, SetUmask, TakeFromPipe, TakeInput, UnmapPages, WriteErr, WriteFile, WriteOut}
+use Rattle.kr_core.specs.kr_model.State.{Image, Process, State, at_pid, is_pid, named, process, with_descs, with_process}
+use Rattle.kr_core.specs.kr_stops.Stopped.{computed}
+use Rattle.kr_core.proofs.law_allowed.PieceLemmas.{all-append}
 use Rattle.kr_loose.specs.Marks.{AreUnmarked, ChangesMarkNothing, HasNoMarks, LoadsUnmarked}
 use Rattle.kr_loose.proofs.UnmarkedLemmas.{unmarked-mapped, unmarked-protected, unmarked-unmapped, unmarked-written}
 

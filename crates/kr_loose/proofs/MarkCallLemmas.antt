@@ -3,53 +3,53 @@ use Rattle.std.proofs.Common.{◌≡◌, ℕ, ◌+◌, ◌-◌, ◌/◌, Bool, t
 use Rattle.std.specs.Prelude.{neg_ℤ, pos}
 use Rattle.std.specs.List.{AllByRecursion, list_all}
 use Rattle.std.specs.Option.{option_map_or}
-use Rattle.kr_turns.specs.pr_base.Errno.{errno_number}
-use Rattle.kr_turns.specs.pr_base.declared.errno.Errno.{Errno}
-use Rattle.kr_turns.specs.pr_base.declared.errno.Errno.TheVariants.{ENOENT, ENOMEM}
-use Rattle.kr_turns.specs.rv_mem.Actions.{Action, CarriedOut, Done, MayUse, ReadBytes, WriteBytes, allows_uses, carried_out}
-use Rattle.kr_turns.specs.rv_mem.Memory.{Memory, after_read, empty_memory, with_pages}
-use Rattle.kr_turns.specs.rv_mem.Pages.{Pages, bytes_from, mapped, written}
-use Rattle.kr_turns.specs.rv_mem.declared.regs.Regs.{Regs}
-use Rattle.kr_turns.specs.elf_read.Plans.{planned}
-use Rattle.kr_turns.specs.elf_read.Rules.{page_size}
-use Rattle.kr_turns.specs.elf_read.declared.plan.Plan.{Plan}
-use Rattle.kr_turns.specs.elf_read.declared.plan.Segment.{Segment}
-use Rattle.kr_turns.specs.elf_load.FirstStack.{pairs_of, stack_bytes, stack_pointer, stack_top}
-use Rattle.kr_turns.specs.elf_load.Image.{end_page, file_bytes, first_page, image_pages, rights_in, stack_pages, stack_rights, with_segment, with_segments, with_stack}
-use Rattle.kr_turns.specs.kr_exec.Exec.{exec_plan}
-use Rattle.kr_turns.specs.kr_exec.Interpreters.{bytes_at}
-use Rattle.kr_turns.specs.kr_exec.Lists.{Trying, and_then, lists_at}
-use Rattle.kr_turns.specs.kr_exec.declared.lists.Lists.{Lists}
-use Rattle.kr_turns.specs.kr_exec.declared.plan.ExecPlan.{ExecPlan}
-use Rattle.kr_turns.specs.kr_execve.Execution.{Program, after_execution, changes_of, exceeds, execution, execution_from, found_from, ids_of, loaded, mount_of, planned_from, program_of}
-use Rattle.kr_turns.specs.kr_view.View.{Row}
-use Rattle.kr_turns.specs.kr_view.Walk.{PlaceTarget}
-use Rattle.kr_turns.specs.kr_model.kr_calls.CallTable.{line, makes_at_all}
-use Rattle.kr_turns.specs.kr_model.kr_calls.Decoding.{decoding}
-use Rattle.kr_turns.specs.kr_model.kr_calls.Kinds.{Kind, ReplacesImage}
-use Rattle.kr_turns.specs.kr_model.kr_calls.declared.request.Request.{Request}
-use Rattle.kr_turns.specs.kr_model.kr_calls.declared.request.Request.TheVariants as call
-use Rattle.kr_turns.specs.kr_model.kr_tree.declared.place.Place.{Place}
-use Rattle.kr_turns.specs.kr_model.Applied.{Mounts, cwd_of, with_image, with_living}
-use Rattle.kr_turns.specs.kr_model.Change.{Change, ReplaceImage}
-use Rattle.kr_turns.specs.kr_model.ChangeKinds.{kind}
-use Rattle.kr_turns.specs.kr_model.Known.{known}
-use Rattle.kr_turns.specs.kr_model.Operation.{operation}
-use Rattle.kr_turns.specs.kr_model.Reply.{Reply}
-use Rattle.kr_turns.specs.kr_model.State.{Image, Process, State, image_layout, process, with_process}
-use Rattle.kr_turns.specs.kr_model.Walks as results
-use Rattle.kr_turns.specs.kr_model.Walks.{seen, targets_of}
-use Rattle.kr_turns.specs.kr_model.declared.outcome.Outcome.{Outcome}
-use Rattle.kr_turns.specs.kr_model.declared.outcome.Outcome.TheVariants.{Answer, Ended, NoMemory, Wait}
-use Rattle.kr_turns.specs.law_allowed.Told.{mounts_walked}
-use Rattle.kr_turns.specs.kr_seen.Carrying.{after_row, memory_of, no_memory, with_memory, with_memory_of}
-use Rattle.kr_turns.specs.kr_steps.Answering.{going, with_answer}
-use Rattle.kr_turns.specs.kr_steps.Settling.{settled}
-use Rattle.kr_turns.specs.kr_stops.Stopped.{computed, nothing_handed}
-use Rattle.kr_turns.specs.PlainCall.{after_decoding, executed, operated, plain_call, plain_call_of, refusal_told, replaced, requested, row_on}
-use Rattle.kr_turns.specs.declared.plain.CallEnd.TheVariants as end
-use Rattle.kr_turns.proofs.kr_seen.kr_model.LineLemmas.{by_line, line_passes}
-use Rattle.kr_turns.proofs.kr_seen.kr_model.KeepingLemmas.{both_true}
+use Rattle.kr_core.specs.pr_base.Errno.{errno_number}
+use Rattle.kr_core.specs.pr_base.declared.errno.Errno.{Errno}
+use Rattle.kr_core.specs.pr_base.declared.errno.Errno.TheVariants.{ENOENT, ENOMEM}
+use Rattle.kr_core.specs.rv_mem.Actions.{Action, CarriedOut, Done, MayUse, ReadBytes, WriteBytes, allows_uses, carried_out}
+use Rattle.kr_core.specs.rv_mem.Memory.{Memory, after_read, empty_memory, with_pages}
+use Rattle.kr_core.specs.rv_mem.Pages.{Pages, bytes_from, mapped, written}
+use Rattle.kr_core.specs.rv_mem.declared.regs.Regs.{Regs}
+use Rattle.kr_core.specs.elf_read.Plans.{planned}
+use Rattle.kr_core.specs.elf_read.Rules.{page_size}
+use Rattle.kr_core.specs.elf_read.declared.plan.Plan.{Plan}
+use Rattle.kr_core.specs.elf_read.declared.plan.Segment.{Segment}
+use Rattle.kr_core.specs.elf_load.FirstStack.{pairs_of, stack_bytes, stack_pointer, stack_top}
+use Rattle.kr_core.specs.elf_load.Image.{end_page, file_bytes, first_page, image_pages, rights_in, stack_pages, stack_rights, with_segment, with_segments, with_stack}
+use Rattle.kr_core.specs.kr_exec.Exec.{exec_plan}
+use Rattle.kr_core.specs.kr_exec.Interpreters.{bytes_at}
+use Rattle.kr_core.specs.kr_exec.Lists.{Trying, and_then, lists_at}
+use Rattle.kr_core.specs.kr_exec.declared.lists.Lists.{Lists}
+use Rattle.kr_core.specs.kr_exec.declared.plan.ExecPlan.{ExecPlan}
+use Rattle.kr_core.specs.kr_execve.Execution.{Program, after_execution, changes_of, exceeds, execution, execution_from, found_from, ids_of, loaded, mount_of, planned_from, program_of}
+use Rattle.kr_core.specs.kr_view.View.{Row}
+use Rattle.kr_core.specs.kr_view.Walk.{PlaceTarget}
+use Rattle.kr_core.specs.kr_calls.CallTable.{line, makes_at_all}
+use Rattle.kr_core.specs.kr_calls.Decoding.{decoding}
+use Rattle.kr_core.specs.kr_calls.Kinds.{Kind, ReplacesImage}
+use Rattle.kr_core.specs.kr_calls.declared.request.Request.{Request}
+use Rattle.kr_core.specs.kr_calls.declared.request.Request.TheVariants as call
+use Rattle.kr_core.specs.kr_tree.declared.place.Place.{Place}
+use Rattle.kr_core.specs.kr_model.Applied.{Mounts, cwd_of, with_image, with_living}
+use Rattle.kr_core.specs.kr_model.Change.{Change, ReplaceImage}
+use Rattle.kr_core.specs.kr_model.ChangeKinds.{kind}
+use Rattle.kr_core.specs.kr_model.Known.{known}
+use Rattle.kr_core.specs.kr_model.Operation.{operation}
+use Rattle.kr_core.specs.kr_model.Reply.{Reply}
+use Rattle.kr_core.specs.kr_model.State.{Image, Process, State, image_layout, process, with_process}
+use Rattle.kr_core.specs.kr_model.Walks as results
+use Rattle.kr_core.specs.kr_model.Walks.{seen, targets_of}
+use Rattle.kr_core.specs.kr_model.declared.outcome.Outcome.{Outcome}
+use Rattle.kr_core.specs.kr_model.declared.outcome.Outcome.TheVariants.{Answer, Ended, NoMemory, Wait}
+use Rattle.kr_core.specs.law_allowed.Told.{mounts_walked}
+use Rattle.kr_core.specs.kr_seen.Carrying.{after_row, memory_of, no_memory, with_memory, with_memory_of}
+use Rattle.kr_core.specs.kr_steps.Answering.{going, with_answer}
+use Rattle.kr_core.specs.kr_steps.Settling.{settled}
+use Rattle.kr_core.specs.kr_stops.Stopped.{computed, nothing_handed}
+use Rattle.kr_core.specs.kr_turns.PlainCall.{after_decoding, executed, operated, plain_call, plain_call_of, refusal_told, replaced, requested, row_on}
+use Rattle.kr_core.specs.kr_turns.declared.plain.CallEnd.TheVariants as end
+use Rattle.kr_core.proofs.kr_model.LineLemmas.{by_line, line_passes}
+use Rattle.kr_core.proofs.kr_model.KeepingLemmas.{both_true}
 use Rattle.kr_loose.specs.Marks.{AreUnmarked, HasNoMarks, LoadsUnmarked, PlainCallsMarkNothing, ProgramsLoadUnmarked}
 use Rattle.kr_loose.proofs.UnmarkedLemmas.{action-unmarked, unmarked-empty, unmarked-mapped, unmarked-written}
 use Rattle.kr_loose.proofs.LivingLemmas.{changes-mark-nothing, computing-unmarked, process-unmarked, with-one}

@@ -2,32 +2,37 @@
 use Rattle.std.proofs.Common.{◌≡◌, ℕ, zero, suc, ◌%◌, Bool, List, length, Option, Some, None, refl}
 use Rattle.std.specs.Prelude.{slice_set}
 use Rattle.std.specs.Option.{option_map_or}
-use Rattle.kr_turns.specs.rv_mem.Memory.{Memory, after_read, with_pages}
-use Rattle.kr_turns.specs.rv_mem.Pages.{written}
-use Rattle.kr_turns.specs.rv_mem.Actions.{carried_out as carried_out_on}
-use Rattle.kr_turns.specs.rv_mem.declared.regs.Regs.{Regs}
-use Rattle.kr_turns.specs.rv_cpu.Run.{Ran, ran}
-use Rattle.kr_turns.specs.rv_cpu.declared.event.Event.{Event}
-use Rattle.kr_turns.specs.rv_cpu.declared.event.Event.TheVariants.{Next, Call, Killed}
-use Rattle.kr_turns.specs.kr_view.View.{Row}
-use Rattle.kr_turns.specs.kr_model.kr_calls.Decoding.{decoding}
-use Rattle.kr_turns.specs.kr_model.Change.{End}
-use Rattle.kr_turns.specs.kr_model.State.{Image, Process, State, process}
-use Rattle.kr_turns.specs.kr_steps.Waiting.{goes_on, picked_process, ready_processes}
-use Rattle.kr_turns.specs.kr_stops.Editing.{memory_at}
-use Rattle.kr_turns.specs.kr_stops.Stopped.{Stopped, computed, edited, image_at, image_in, no_image}
-use Rattle.kr_turns.specs.kr_stops.Watching.{Watcher}
-use Rattle.kr_turns.specs.kr_stops.declared.handed.Handed.{Handed}
-use Rattle.kr_turns.specs.Breaking.{no_mounts, plain_rule}
-use Rattle.kr_turns.specs.PlainCall.{Came, plain_call}
-use Rattle.kr_turns.specs.Run.{Ending, Slot, after_put, ended, ending_of, put_by, run_from, turned, with_put}
-use Rattle.kr_turns.specs.Shelving.{lacks_in, shelved_in}
-use Rattle.kr_turns.specs.Turn.{Machine, Tally, after_born, after_end, after_event, after_exit, by_pick, called, calling, killed, turn, turn_of, watched_call, with_broken}
-use Rattle.kr_turns.specs.declared.plain.CallEnd.{CallEnd}
-use Rattle.kr_turns.specs.declared.plain.CallEnd.TheVariants as end
-use Rattle.kr_loose.specs.Between.{AtCall, Begun, Between, Done, Entered, Paused, between_of}
-use Rattle.kr_loose.specs.CallSteps.{carried_by, carried_out, entered, exited}
-use Rattle.kr_loose.specs.LooseRun.{Loose, after_bytes, after_instructions, computing, loose_ended, loose_from, loose_put, loosened, moved, step, step_of, stepped}
+use Rattle.kr_core.specs.rv_mem.Memory.{Memory, after_read, with_pages}
+use Rattle.kr_core.specs.rv_mem.Pages.{written}
+use Rattle.kr_core.specs.rv_mem.Actions.{carried_out as carried_out_on}
+use Rattle.kr_core.specs.rv_mem.declared.regs.Regs.{Regs}
+use Rattle.kr_core.specs.rv_cpu.Run.{Ran, ran}
+use Rattle.kr_core.specs.rv_cpu.declared.event.Event.{Event}
+use Rattle.kr_core.specs.rv_cpu.declared.event.Event.TheVariants.{Next, Call, Killed}
+use Rattle.kr_core.specs.kr_view.View.{Row}
+use Rattle.kr_core.specs.kr_calls.Decoding.{decoding}
+use Rattle.kr_core.specs.kr_model.Change.{End}
+use Rattle.kr_core.specs.kr_model.State.{Image, Process, State, process}
+use Rattle.kr_core.specs.kr_steps.Waiting.{goes_on, picked_process, ready_processes}
+use Rattle.kr_core.specs.kr_stops.Editing.{memory_at}
+use Rattle.kr_core.specs.kr_stops.Stopped.{Stopped, computed, edited, image_at, image_in, no_image}
+use Rattle.kr_core.specs.kr_stops.Watching.{Watcher}
+use Rattle.kr_core.specs.kr_stops.declared.handed.Handed.{Handed}
+use Rattle.kr_core.specs.kr_turns.Breaking.{no_mounts, plain_rule}
+use Rattle.kr_core.specs.kr_turns.PlainCall.{Came, plain_call}
+use Rattle.kr_core.specs.kr_turns.Run.{Ending, Slot, after_put, ended, ending_of, put_by, run_from, turned, with_put}
+use Rattle.kr_core.specs.kr_turns.Shelving.{lacks_in, shelved_in}
+use Rattle.kr_core.specs.kr_turns.Turn.{Machine, Tally, after_born, after_end, after_event, after_exit, by_pick, called, calling, killed, turn, turn_of, watched_call, with_broken}
+use Rattle.kr_core.specs.kr_turns.declared.plain.CallEnd.{CallEnd}
+use Rattle.kr_core.specs.kr_turns.declared.plain.CallEnd.TheVariants as end
+use Rattle.kr_core.specs.Between.{between_of}
+use Rattle.kr_core.specs.declared.paused.Begun.{Begun}
+use Rattle.kr_core.specs.declared.paused.Between.{Between}
+use Rattle.kr_core.specs.declared.paused.Between.TheVariants.{AtCall, Done, Entered}
+use Rattle.kr_core.specs.declared.paused.Paused.{Paused}
+use Rattle.kr_core.specs.kr_turns.CallSteps.{carried_by, carried_out, entered, exited}
+use Rattle.kr_core.specs.Moving.{after_instructions, computing, moved}
+use Rattle.kr_loose.specs.LooseRun.{Loose, after_bytes, loose_ended, loose_from, loose_put, loosened, step, step_of, stepped}
 use Rattle.kr_loose.specs.Marks.{AreUnmarked, EditsMarkNothing, HasNoMarks, LooseRunsMarkNothing, MarksNothing, NobodyMarks, RunsMarkNothing, StepsMarkNothing, TurnsMarkNothing}
 use Rattle.kr_loose.proofs.UnmarkedLemmas.{action-unmarked, ran-unmarked, unmarked-empty, unmarked-written}
 use Rattle.kr_loose.proofs.LivingLemmas.{all-at, all-passed, change-unmarked, computing-unmarked, process-unmarked}

@@ -1,22 +1,22 @@
 -- Instructions that end with a call are parted at it: where the next instruction is a call, it is one whatever is reserved.
 use Rattle.std.proofs.Common.{◌≡◌, ℕ, zero, suc, ◌+◌, ◌-◌, ◌*◌, ◌/◌, ◌%◌, ◌<◌, ◌==◌, Bool, true, false, not, ℤ, List, [], ◌∷◌, Option, Some, None, cond, refl, sym, ap, subst, ◌∙◌, arith}
-use Rattle.kr_turns.specs.pr_base.Fields.{little_endian}
-use Rattle.kr_turns.specs.rv_mem.declared.regs.Regs.{Regs}
-use Rattle.kr_turns.specs.rv_mem.declared.rights.Use.{Use}
-use Rattle.kr_turns.specs.rv_mem.declared.rights.Use.TheVariants.{Read, Write, Execute}
-use Rattle.kr_turns.specs.rv_mem.Actions.{Action, CarriedOut, Done, MayUse, ReadBytes, WriteBytes, allows_uses, carried_out, read_if_allowed, write_if_allowed}
-use Rattle.kr_turns.specs.rv_mem.Memory.{Memory, after_read, with_pages}
-use Rattle.kr_turns.specs.rv_mem.Pages.{bytes_from, written}
-use Rattle.kr_turns.specs.rv_table.Rows.{decoded}
-use Rattle.kr_turns.specs.rv_table.declared.instr.Instr.{Instr}
-use Rattle.kr_turns.specs.rv_table.declared.instr.Instr.TheVariants.{Lb, Lh, Lw, Ld, Lbu, Lhu, Lwu, Sb, Sh, Sw, Sd, Beq, Bne, Blt, Bge, Bltu, Bgeu, Jalr, Jal, Ecall, Ebreak, LrW, LrD, ScW, ScD, AmoswapW, AmoswapD, AmoaddW, AmoaddD, AmoxorW, AmoxorD, AmoandW, AmoandD, AmoorW, AmoorD, AmominW, AmominD, AmomaxW, AmomaxD, AmominuW, AmominuD, AmomaxuW, AmomaxuD}
-use Rattle.kr_turns.specs.rv_cpu.declared.event.Event.{Event}
-use Rattle.kr_turns.specs.rv_cpu.declared.event.Event.TheVariants.{Next, Call, Killed}
-use Rattle.kr_turns.specs.rv_cpu.declared.reservation.Held.{Held}
-use Rattle.kr_turns.specs.rv_cpu.Run.{Ran, after_one, counted, ran, ran_holding}
-use Rattle.kr_turns.specs.rv_cpu.Step.{Stepped, address, at_pc, branches, ends, executed, executed_word, gives, holds, if_aligned, is_held, jumps, kills, loads, lowest_bytes, moved_on, register, replaces, reserves, step, stores, stores_if_held, widened, width, with_register}
-use Rattle.kr_turns.specs.rv_cpu.Words.{both, either, exactly_one, greatest, greatest_unsigned, is_less, is_less_unsigned, least, least_unsigned, sign_extended, sign_extended_byte, sign_extended_half, sum, word_greatest, word_greatest_unsigned, word_least, word_least_unsigned, wrapped}
-use Rattle.kr_turns.proofs.rv_cpu.RunLemmas.{by_event, ran-next, ran-stop, ran-zero}
+use Rattle.kr_core.specs.pr_base.Fields.{little_endian}
+use Rattle.kr_core.specs.rv_mem.declared.regs.Regs.{Regs}
+use Rattle.kr_core.specs.rv_mem.declared.rights.Use.{Use}
+use Rattle.kr_core.specs.rv_mem.declared.rights.Use.TheVariants.{Read, Write, Execute}
+use Rattle.kr_core.specs.rv_mem.Actions.{Action, CarriedOut, Done, MayUse, ReadBytes, WriteBytes, allows_uses, carried_out, read_if_allowed, write_if_allowed}
+use Rattle.kr_core.specs.rv_mem.Memory.{Memory, after_read, with_pages}
+use Rattle.kr_core.specs.rv_mem.Pages.{bytes_from, written}
+use Rattle.kr_core.specs.rv_table.Rows.{decoded}
+use Rattle.kr_core.specs.rv_table.declared.instr.Instr.{Instr}
+use Rattle.kr_core.specs.rv_table.declared.instr.Instr.TheVariants.{Lb, Lh, Lw, Ld, Lbu, Lhu, Lwu, Sb, Sh, Sw, Sd, Beq, Bne, Blt, Bge, Bltu, Bgeu, Jalr, Jal, Ecall, Ebreak, LrW, LrD, ScW, ScD, AmoswapW, AmoswapD, AmoaddW, AmoaddD, AmoxorW, AmoxorD, AmoandW, AmoandD, AmoorW, AmoorD, AmominW, AmominD, AmomaxW, AmomaxD, AmominuW, AmominuD, AmomaxuW, AmomaxuD}
+use Rattle.kr_core.specs.rv_cpu.declared.event.Event.{Event}
+use Rattle.kr_core.specs.rv_cpu.declared.event.Event.TheVariants.{Next, Call, Killed}
+use Rattle.kr_core.specs.rv_cpu.declared.reservation.Held.{Held}
+use Rattle.kr_core.specs.rv_cpu.Run.{Ran, after_one, counted, ran, ran_holding}
+use Rattle.kr_core.specs.rv_cpu.Step.{Stepped, address, at_pc, branches, ends, executed, executed_word, gives, holds, if_aligned, is_held, jumps, kills, loads, lowest_bytes, moved_on, register, replaces, reserves, step, stores, stores_if_held, widened, width, with_register}
+use Rattle.kr_core.specs.rv_cpu.Words.{both, either, exactly_one, greatest, greatest_unsigned, is_less, is_less_unsigned, least, least_unsigned, sign_extended, sign_extended_byte, sign_extended_half, sum, word_greatest, word_greatest_unsigned, word_least, word_least_unsigned, wrapped}
+use Rattle.kr_core.proofs.rv_cpu.RunLemmas.{by_event, ran-next, ran-stop, ran-zero}
 use Rattle.kr_loose.specs.Marks.{HasNoMarks}
 use Rattle.kr_loose.specs.Parting.{PartsAtCall, RunsPartAtCalls}
 use Rattle.kr_loose.proofs.UnmarkedLemmas.{action-unmarked, unread}

@@ -5,20 +5,20 @@ use Rattle.std.specs.Prelude.{slice_set}
 use Rattle.std.specs.Option.{option_map, option_map_or}
 use Rattle.std.specs.Ordering.{nat_cmp}
 use Rattle.std.proofs.lemmas.Bool.{cases_eq}
-use Rattle.kr_turns.proofs.pr_base.MapLemmas.{get-changed_other, get-changed_same, get-insert_other, get-insert_same, get-remove_other, get-remove_same}
-use Rattle.kr_turns.specs.rv_mem.declared.regs.Regs.{Regs}
-use Rattle.kr_turns.specs.rv_mem.declared.rights.Rights.{Rights}
-use Rattle.kr_turns.specs.rv_mem.Actions.{Action, CarriedOut, Done, MayUse, ReadBytes, WriteBytes, allows_uses, carried_out}
-use Rattle.kr_turns.specs.rv_mem.Marks.{no_marks}
-use Rattle.kr_turns.specs.rv_mem.Memory.{Memory, after_read, with_pages}
-use Rattle.kr_turns.specs.rv_mem.Page.{PageState, fresh_page, page_with_rights, page_written}
-use Rattle.kr_turns.specs.rv_mem.Pages.{Pages, any_marked, bytes_from, is_marked, mapped, protected, unmapped, with_page, written}
-use Rattle.kr_turns.specs.rv_cpu.Run.{ran_holding}
-use Rattle.kr_turns.specs.rv_cpu.Step.{Stepped, step}
-use Rattle.kr_turns.specs.rv_cpu.declared.event.Event.{Event}
-use Rattle.kr_turns.specs.rv_cpu.declared.event.Event.TheVariants.{Next, Call, Killed}
-use Rattle.kr_turns.specs.rv_cpu.declared.reservation.Held.{Held}
-use Rattle.kr_turns.proofs.rv_cpu.RunLemmas.{by_event}
+use Rattle.kr_core.proofs.pr_base.MapLemmas.{get-changed_other, get-changed_same, get-insert_other, get-insert_same, get-remove_other, get-remove_same}
+use Rattle.kr_core.specs.rv_mem.declared.regs.Regs.{Regs}
+use Rattle.kr_core.specs.rv_mem.declared.rights.Rights.{Rights}
+use Rattle.kr_core.specs.rv_mem.Actions.{Action, CarriedOut, Done, MayUse, ReadBytes, WriteBytes, allows_uses, carried_out}
+use Rattle.kr_core.specs.rv_mem.Marks.{no_marks}
+use Rattle.kr_core.specs.rv_mem.Memory.{Memory, after_read, with_pages}
+use Rattle.kr_core.specs.rv_mem.Page.{PageState, fresh_page, page_with_rights, page_written}
+use Rattle.kr_core.specs.rv_mem.Pages.{Pages, any_marked, bytes_from, is_marked, mapped, protected, unmapped, with_page, written}
+use Rattle.kr_core.specs.rv_cpu.Run.{ran_holding}
+use Rattle.kr_core.specs.rv_cpu.Step.{Stepped, step}
+use Rattle.kr_core.specs.rv_cpu.declared.event.Event.{Event}
+use Rattle.kr_core.specs.rv_cpu.declared.event.Event.TheVariants.{Next, Call, Killed}
+use Rattle.kr_core.specs.rv_cpu.declared.reservation.Held.{Held}
+use Rattle.kr_core.proofs.rv_cpu.RunLemmas.{by_event}
 use Rattle.kr_loose.specs.Marks.{ActionsMarkNothing, HasNoMarks, InstructionsMarkNothing}
 
 -- ---- one page

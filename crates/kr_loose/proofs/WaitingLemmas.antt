@@ -1,40 +1,40 @@
 -- Calls that can wait have no path, and where they come to wait leave all but that their caller stays at them.
 use Rattle.std.proofs.Common.{◌≡◌, ◌≢◌, ℕ, ◌==◌, ◌&&◌, ◌||◌, Bool, true, false, List, [], ◌∷◌, cond, Option, Some, None, Result, Ok, Err, IsSome, refl, sym, ap, subst, ◌∙◌}
 use Rattle.std.specs.Option.{option_map, option_map_or}
-use Rattle.kr_turns.specs.pr_base.declared.errno.Errno.{Errno}
-use Rattle.kr_turns.specs.rv_mem.Actions.{CarriedOut, carried_out}
-use Rattle.kr_turns.specs.rv_mem.Memory.{Memory}
-use Rattle.kr_turns.specs.rv_mem.declared.regs.Regs.{Regs}
-use Rattle.kr_turns.specs.kr_calm.Shelf.{has_path}
-use Rattle.kr_turns.specs.kr_execve.Execution.{Program, after_execution, execution, mount_of}
-use Rattle.kr_turns.specs.kr_view.View.{Row}
-use Rattle.kr_turns.specs.kr_model.kr_calls.Arguments.{has_other, int, long, number, word}
-use Rattle.kr_turns.specs.kr_model.kr_calls.CallTable.{ByKernel, ToldNothing, line}
-use Rattle.kr_turns.specs.kr_model.kr_calls.Decoding.{Decoded, accepts, decoding, decoding_of, unless, wait_flags}
-use Rattle.kr_turns.specs.kr_model.kr_calls.declared.request.Request.{Request}
-use Rattle.kr_turns.specs.kr_model.kr_calls.declared.request.Request.TheVariants as call
-use Rattle.kr_turns.specs.kr_model.Applied.{with_image, with_living}
-use Rattle.kr_turns.specs.kr_model.FileRows.{creates}
-use Rattle.kr_turns.specs.kr_model.Known.{known}
-use Rattle.kr_turns.specs.kr_model.Laws.{may_wait}
-use Rattle.kr_turns.specs.kr_model.Operation.{operation}
-use Rattle.kr_turns.specs.kr_model.Reply.{Reply}
-use Rattle.kr_turns.specs.kr_model.State.{Image, Process, State, at_pid, image_layout, process, with_process}
-use Rattle.kr_turns.specs.kr_model.Walks.{seen, targets_of}
-use Rattle.kr_turns.specs.kr_model.declared.outcome.Outcome.{Outcome}
-use Rattle.kr_turns.specs.kr_model.declared.outcome.Outcome.TheVariants.{Answer, Ended, NoMemory, Wait}
-use Rattle.kr_turns.specs.law_allowed.Told.{mounts_walked}
-use Rattle.kr_turns.specs.kr_seen.Carrying.{after_row, memory_of, no_memory, with_memory, with_memory_of}
-use Rattle.kr_turns.specs.kr_steps.Answering.{going, waiting}
-use Rattle.kr_turns.specs.kr_steps.Settling.{settled}
-use Rattle.kr_turns.specs.kr_steps.Waits.{IsDecoded}
-use Rattle.kr_turns.specs.kr_stops.Remembering.{is_shape_call}
-use Rattle.kr_turns.specs.kr_stops.Stopped.{IsThere, Stopped, computed, image_at, image_in, no_image, nothing_handed}
-use Rattle.kr_turns.specs.PlainCall.{Came, after_decoding, child_of, end_of, operated, plain_call_of, replaced, requested, row_on}
-use Rattle.kr_turns.specs.declared.plain.CallEnd.TheVariants as end
-use Rattle.kr_turns.proofs.law_lawful.ProcessChangeLemmas.{found as found_changed}
-use Rattle.kr_turns.proofs.kr_perform.kr_model.kr_calls.DecodingLemmas.{decoded_are_numbered}
-use Rattle.kr_turns.proofs.kr_seen.kr_model.LineLemmas.{row_keeps, row_waits}
+use Rattle.kr_core.specs.pr_base.declared.errno.Errno.{Errno}
+use Rattle.kr_core.specs.rv_mem.Actions.{CarriedOut, carried_out}
+use Rattle.kr_core.specs.rv_mem.Memory.{Memory}
+use Rattle.kr_core.specs.rv_mem.declared.regs.Regs.{Regs}
+use Rattle.kr_core.specs.kr_calm.Shelf.{has_path}
+use Rattle.kr_core.specs.kr_execve.Execution.{Program, after_execution, execution, mount_of}
+use Rattle.kr_core.specs.kr_view.View.{Row}
+use Rattle.kr_core.specs.kr_calls.Arguments.{has_other, int, long, number, word}
+use Rattle.kr_core.specs.kr_calls.CallTable.{ByKernel, ToldNothing, line}
+use Rattle.kr_core.specs.kr_calls.Decoding.{Decoded, accepts, decoding, decoding_of, unless, wait_flags}
+use Rattle.kr_core.specs.kr_calls.declared.request.Request.{Request}
+use Rattle.kr_core.specs.kr_calls.declared.request.Request.TheVariants as call
+use Rattle.kr_core.specs.kr_model.Applied.{with_image, with_living}
+use Rattle.kr_core.specs.kr_model.FileRows.{creates}
+use Rattle.kr_core.specs.kr_model.Known.{known}
+use Rattle.kr_core.specs.kr_model.Laws.{may_wait}
+use Rattle.kr_core.specs.kr_model.Operation.{operation}
+use Rattle.kr_core.specs.kr_model.Reply.{Reply}
+use Rattle.kr_core.specs.kr_model.State.{Image, Process, State, at_pid, image_layout, process, with_process}
+use Rattle.kr_core.specs.kr_model.Walks.{seen, targets_of}
+use Rattle.kr_core.specs.kr_model.declared.outcome.Outcome.{Outcome}
+use Rattle.kr_core.specs.kr_model.declared.outcome.Outcome.TheVariants.{Answer, Ended, NoMemory, Wait}
+use Rattle.kr_core.specs.law_allowed.Told.{mounts_walked}
+use Rattle.kr_core.specs.kr_seen.Carrying.{after_row, memory_of, no_memory, with_memory, with_memory_of}
+use Rattle.kr_core.specs.kr_steps.Answering.{going, waiting}
+use Rattle.kr_core.specs.kr_steps.Settling.{settled}
+use Rattle.kr_core.specs.kr_steps.Waits.{IsDecoded}
+use Rattle.kr_core.specs.kr_stops.Remembering.{is_shape_call}
+use Rattle.kr_core.specs.kr_stops.Stopped.{IsThere, Stopped, computed, image_at, image_in, no_image, nothing_handed}
+use Rattle.kr_core.specs.kr_turns.PlainCall.{Came, after_decoding, child_of, end_of, operated, plain_call_of, replaced, requested, row_on}
+use Rattle.kr_core.specs.kr_turns.declared.plain.CallEnd.TheVariants as end
+use Rattle.kr_core.proofs.law_lawful.ProcessChangeLemmas.{found as found_changed}
+use Rattle.kr_core.proofs.kr_calls.DecodingLemmas.{decoded_are_numbered}
+use Rattle.kr_core.proofs.kr_model.LineLemmas.{row_keeps, row_waits}
 use Rattle.kr_loose.specs.Marks.{AreUnmarked, HasNoMarks}
 use Rattle.kr_loose.specs.WaitingCalls.{HasNoPath, LeavesAll, WaitingCallsHaveNoPath, WaitsLeaveAll}
 use Rattle.kr_loose.proofs.UnmarkedLemmas.{action-unmarked}

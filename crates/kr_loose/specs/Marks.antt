@@ -2,23 +2,23 @@
 -- marks none.
 use Rattle.std.specs.Prelude.{◌≡◌, ℕ, false, List}
 use Rattle.std.specs.List.{AllByRecursion}
-use Rattle.kr_turns.specs.rv_mem.Actions.{Action, carried_out}
-use Rattle.kr_turns.specs.rv_mem.Memory.{Memory}
-use Rattle.kr_turns.specs.rv_mem.Pages.{Pages, is_marked}
-use Rattle.kr_turns.specs.rv_mem.declared.regs.Regs.{Regs}
-use Rattle.kr_turns.specs.rv_cpu.Run.{ran}
-use Rattle.kr_turns.specs.elf_read.declared.plan.Plan.{Plan}
-use Rattle.kr_turns.specs.elf_load.Image.{image_memory}
-use Rattle.kr_turns.specs.kr_view.View.{Row}
-use Rattle.kr_turns.specs.kr_model.Applied.{Mounts, all_applied, images}
-use Rattle.kr_turns.specs.kr_model.Change.{Change, ReplaceImage}
-use Rattle.kr_turns.specs.kr_model.State.{Image, Process, State}
-use Rattle.kr_turns.specs.PlainCall.{plain_call}
-use Rattle.kr_turns.specs.Run.{Slot, run}
-use Rattle.kr_turns.specs.Turn.{Machine, turn}
-use Rattle.kr_turns.specs.kr_stops.Editing.{after_peek, after_poke, after_request, memory_at, with_register}
-use Rattle.kr_turns.specs.kr_stops.Stopped.{Stopped, edited}
-use Rattle.kr_turns.specs.kr_stops.Watching.{Watcher, unwatched}
+use Rattle.kr_core.specs.rv_mem.Actions.{Action, carried_out}
+use Rattle.kr_core.specs.rv_mem.Memory.{Memory}
+use Rattle.kr_core.specs.rv_mem.Pages.{Pages, is_marked}
+use Rattle.kr_core.specs.rv_mem.declared.regs.Regs.{Regs}
+use Rattle.kr_core.specs.rv_cpu.Run.{ran}
+use Rattle.kr_core.specs.elf_read.declared.plan.Plan.{Plan}
+use Rattle.kr_core.specs.elf_load.Image.{image_memory}
+use Rattle.kr_core.specs.kr_view.View.{Row}
+use Rattle.kr_core.specs.kr_model.Applied.{Mounts, all_applied, images}
+use Rattle.kr_core.specs.kr_model.Change.{Change, ReplaceImage}
+use Rattle.kr_core.specs.kr_model.State.{Image, Process, State}
+use Rattle.kr_core.specs.kr_turns.PlainCall.{plain_call}
+use Rattle.kr_core.specs.kr_turns.Run.{Slot, run}
+use Rattle.kr_core.specs.kr_turns.Turn.{Machine, turn}
+use Rattle.kr_core.specs.kr_stops.Editing.{after_peek, after_poke, after_request, memory_at, with_register}
+use Rattle.kr_core.specs.kr_stops.Stopped.{Stopped, edited}
+use Rattle.kr_core.specs.kr_stops.Watching.{Watcher, unwatched}
 use Rattle.kr_loose.specs.LooseRun.{Loose, loose_run, step}
 
 -- no byte is marked

@@ -1,10 +1,10 @@
 -- Instructions that end with a call, parted at it: those before it are as many instructions by themselves, and the call is an instruction by
 -- itself. Of no other parting is anything said, since a reservation lasts as long as the instructions of one turn.
 use Rattle.std.specs.Prelude.{◌≡◌, ℕ, suc, ◌-◌, ◌<◌}
-use Rattle.kr_turns.specs.rv_mem.Memory.{Memory}
-use Rattle.kr_turns.specs.rv_mem.declared.regs.Regs.{Regs}
-use Rattle.kr_turns.specs.rv_cpu.Run.{Ran, ran}
-use Rattle.kr_turns.specs.rv_cpu.declared.event.Event.TheVariants.{Next, Call}
+use Rattle.kr_core.specs.rv_mem.Memory.{Memory}
+use Rattle.kr_core.specs.rv_mem.declared.regs.Regs.{Regs}
+use Rattle.kr_core.specs.rv_cpu.Run.{Ran, ran}
+use Rattle.kr_core.specs.rv_cpu.declared.event.Event.TheVariants.{Next, Call}
 use Rattle.kr_loose.specs.Marks.{HasNoMarks}
 
 -- the last of some instructions was a call, and counts among them. Those before it end with the registers and the memory that it left, and there

@@ -1,22 +1,22 @@
 -- Calls that can wait. They have no path, so nothing is put in the place of another thing at their first stop; and one that comes to wait leaves
 -- all as it was, but that its caller stays at it. So its first stop, made once more, finds what it found.
 use Rattle.std.specs.Prelude.{◌≡◌, true, false, List, Option, None, Ok}
-use Rattle.kr_turns.specs.rv_mem.Actions.{carried_out}
-use Rattle.kr_turns.specs.rv_mem.Memory.{Memory}
-use Rattle.kr_turns.specs.rv_mem.declared.regs.Regs.{Regs}
-use Rattle.kr_turns.specs.kr_view.View.{Row}
-use Rattle.kr_turns.specs.kr_calm.Shelf.{has_path}
-use Rattle.kr_turns.specs.kr_model.kr_calls.Arguments.{number}
-use Rattle.kr_turns.specs.kr_model.kr_calls.CallTable.{ByKernel, ToldNothing, line}
-use Rattle.kr_turns.specs.kr_model.kr_calls.Decoding.{decoding}
-use Rattle.kr_turns.specs.kr_model.kr_calls.declared.request.Request.{Request}
-use Rattle.kr_turns.specs.kr_model.Laws.{may_wait}
-use Rattle.kr_turns.specs.PlainCall.{Came, plain_call}
-use Rattle.kr_turns.specs.kr_steps.Answering.{waiting}
-use Rattle.kr_turns.specs.kr_steps.Waits.{IsDecoded}
-use Rattle.kr_turns.specs.kr_stops.Remembering.{can_alter_shape}
-use Rattle.kr_turns.specs.kr_stops.Stopped.{IsThere, Stopped, image_at, image_in}
-use Rattle.kr_turns.specs.declared.plain.CallEnd.TheVariants as end
+use Rattle.kr_core.specs.rv_mem.Actions.{carried_out}
+use Rattle.kr_core.specs.rv_mem.Memory.{Memory}
+use Rattle.kr_core.specs.rv_mem.declared.regs.Regs.{Regs}
+use Rattle.kr_core.specs.kr_view.View.{Row}
+use Rattle.kr_core.specs.kr_calm.Shelf.{has_path}
+use Rattle.kr_core.specs.kr_calls.Arguments.{number}
+use Rattle.kr_core.specs.kr_calls.CallTable.{ByKernel, ToldNothing, line}
+use Rattle.kr_core.specs.kr_calls.Decoding.{decoding}
+use Rattle.kr_core.specs.kr_calls.declared.request.Request.{Request}
+use Rattle.kr_core.specs.kr_model.Laws.{may_wait}
+use Rattle.kr_core.specs.kr_turns.PlainCall.{Came, plain_call}
+use Rattle.kr_core.specs.kr_steps.Answering.{waiting}
+use Rattle.kr_core.specs.kr_steps.Waits.{IsDecoded}
+use Rattle.kr_core.specs.kr_stops.Remembering.{can_alter_shape}
+use Rattle.kr_core.specs.kr_stops.Stopped.{IsThere, Stopped, image_at, image_in}
+use Rattle.kr_core.specs.kr_turns.declared.plain.CallEnd.TheVariants as end
 use Rattle.kr_loose.specs.Marks.{AreUnmarked}
 
 -- ---- by what is asked

@@ -1,6 +1,7 @@
 pub use Rattle.law_steady.proofs.pr_base as pr_base
 pub use Rattle.kr_steps.proofs.rv_cpu as rv_cpu
 pub use Rattle.kr_execve.proofs.elf_load as elf_load
+pub use Rattle.kr_execve.proofs.kr_calls as kr_calls
 pub use Rattle.kr_calm.proofs.law_lawful as law_lawful
 pub use Rattle.kr_hostview.proofs.kr_ops as kr_ops
 pub use Rattle.kr_calm.proofs.kr_seen as kr_seen
