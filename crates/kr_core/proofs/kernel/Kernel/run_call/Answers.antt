@@ -1,18 +1,18 @@
-use Rattle.std.proofs.Common.{◌<◌, sym, subst, ◌∙◌}
+use Rattle.std.proofs.Common.{rules, ◌<◌, sym, subst, ◌∙◌}
 use Rattle.std.specs.Prelude.{◌^◌}
 use Rattle.std.proofs.lemmas.Result.{on_ok_weaker}
-use Rattle.kr_turns.specs.declared.steps.After.{After}
 use Rattle.kr_turns.specs.kr_stops.Watching.{watching}
 use Rattle.kr_core.specs.Moving.{Exit}
 use Rattle.kr_core.specs.Stepping.{HasCalled, HasMoved, IsLeftAt}
 use Rattle.kr_core.proofs.SteppingLemmas.{made-done, made-gone, made-waiting}
 use Rattle.kr_core.proofs.kernel.Kernel.run_call.Goals as goal
 
-pub call-requires-clause-few : goal.call-requires-clause-few
-call-requires-clause-few g c = subst (λ n. n < 2 ^ 31) (sym (c.in_ok-enter.ensures.moves 0).calls) c.requires.few
+pub call-requires : goal.call-requires
+call-requires g c =
+    (search rules, (c.in_ok-enter.ensures.whole, (subst (λ n. n < 2 ^ 31) (sym (c.in_ok-enter.ensures.moves 0).calls) c.requires.few, c.in_ok-enter.ensures.phase)))
 
-pub leave-requires-clause-phase : goal.leave-requires-clause-phase
-leave-requires-clause-phase g c = subst (λ (a : After). IsLeftAt g.P.Places.number c.args.pid c.call.new.self a) c.in-Behind.is c.in_ok-after.ensures.phase
+pub leave-requires : goal.leave-requires
+leave-requires g c = (search rules, (c.in_ok-after.ensures.whole, subst (λ a. IsLeftAt g.P.Places.number c.args.pid c.call.new.self a) c.in-Behind.is c.in_ok-after.ensures.phase))
 
 pub returns-in-Waiting-clause-call : goal.returns-in-Waiting-clause-call
 returns-in-Waiting-clause-call g c =

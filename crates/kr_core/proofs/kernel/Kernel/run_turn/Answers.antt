@@ -1,4 +1,4 @@
-use Rattle.std.proofs.Common.{◌≡◌, ◌<◌, ap, sym, subst, ◌∙◌}
+use Rattle.std.proofs.Common.{rules, ◌≡◌, ◌<◌, ap, sym, subst, ◌∙◌}
 use Rattle.std.specs.Prelude.{◌^◌}
 use Rattle.std.proofs.lemmas.Result.{on_ok_weaker}
 use Rattle.kr_turns.specs.declared.steps.Halt.{Halt}
@@ -12,18 +12,15 @@ use Rattle.kr_core.specs.declared.paused.Phase.TheVariants as phase
 use Rattle.kr_core.proofs.SteppingLemmas.{phase-is, turned-alone, turned-calling}
 use Rattle.kr_core.proofs.kernel.Kernel.run_turn.Goals as goal
 
-pub run-requires-clause-phase : goal.run-requires-clause-phase
-run-requires-clause-phase g c = phase-is g.P.Places.number c.args.pid c.args.self.now c.requires.lives phase.Running (ap phase_at (ap (between_of c.args.pid) c.requires.running))
+pub run-requires : goal.run-requires
+run-requires g c =
+    (search rules, (c.requires.whole, phase-is g.P.Places.number c.args.pid c.args.self.now c.requires.lives phase.Running (ap phase_at (ap (between_of c.args.pid) c.requires.running))))
 
-pub run_call-requires-clause-few : goal.run_call-requires-clause-few
-run_call-requires-clause-few g c = subst (λ n. n < 2 ^ 31) (sym c.in_ok-told.ensures.runs.calls) c.requires.few
-
-pub run_call-requires-clause-alone : goal.run_call-requires-clause-alone
-run_call-requires-clause-alone g c =
-    c.in_ok-told.ensures.runs.paused ∙ ap (λ (h : Halt). paused_by c.args.pid h c.args.self.now.paused) c.in-AtCall.is ∙ ap (paused_at c.args.pid AtCall) c.requires.running
-
-pub run_call-requires-clause-phase : goal.run_call-requires-clause-phase
-run_call-requires-clause-phase g c = c.in_ok-told.ensures.phase c.in-AtCall.is
+pub run_call-requires : goal.run_call-requires
+run_call-requires g c =
+    let has = c.in_ok-told.ensures.runs in
+    let alone = has.paused ∙ ap (λ (h : Halt). paused_by c.args.pid h c.args.self.now.paused) c.in-AtCall.is ∙ ap (paused_at c.args.pid AtCall) c.requires.running in
+    (search rules, (c.in_ok-told.ensures.whole, (subst (λ n. n < 2 ^ 31) (sym has.calls) c.requires.few, (alone, c.in_ok-told.ensures.phase c.in-AtCall.is))))
 
 pub returns-in-AtCall-clause-turn : goal.returns-in-AtCall-clause-turn
 returns-in-AtCall-clause-turn g c =

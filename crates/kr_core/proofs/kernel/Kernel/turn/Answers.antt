@@ -1,4 +1,4 @@
-use Rattle.std.proofs.Common.{◌≡◌, ◌≢◌, ◌≤◌, ◌+◌, [], false, suc, ap, arith, refl, sym, subst, ◌∙◌, vec_len, length}
+use Rattle.std.proofs.Common.{rules, ◌≡◌, ◌≢◌, ◌≤◌, ◌+◌, [], false, suc, ap, arith, refl, sym, subst, ◌∙◌, vec_len, length}
 use Rattle.std.specs.Prelude.{IsSome, ◌==◌}
 use Rattle.kr_turns.specs.kr_ops.Meaning.{process_meaning}
 use Rattle.kr_turns.specs.kr_seen.Numbered.{process_numbered}
@@ -18,10 +18,10 @@ returns-in_default-clause-turns g c =
       refl,
     )
 
-pub run_turn-requires-clause-lives : goal.run_turn-requires-clause-lives
-run_turn-requires-clause-lives g c =
+pub run_turn-requires : goal.run_turn-requires
+run_turn-requires g c =
     let picks = subst (λ o. IsPicked g.P.Places.number c.args.pick c.args.self.now o) c.in-Some.is c.picked.ensures in
-    subst IsSome (sym picks.lives) refl
+    (search rules, (c.requires.whole, (c.requires.running, (c.requires.few_calls, subst IsSome (sym picks.lives) refl))))
 
 pub invariant_of-self : goal.invariant_of-self
 invariant_of-self g c = record {
