@@ -1,4 +1,4 @@
-use Rattle.std.proofs.Common.{Some, ap, sym, ◌∙◌}
+use Rattle.std.proofs.Common.{rules, Some, ap, sym, ◌∙◌}
 use Rattle.std.proofs.lemmas.Result.{on_ok_weaker}
 use Rattle.kr_core.specs.Moving.{Entry, Exit}
 use Rattle.kr_core.specs.kr_turns.kr_stops.Watching.{watching}
@@ -9,17 +9,17 @@ use Rattle.kr_loose.proofs.loose.Loose.go.Goals as goal
 pub unreachable-requires : goal.unreachable-requires
 unreachable-requires g c = has-phase g.P.Places.number c.args.pid _ c.requires.lives (sym c.phase.ensures ∙ c.in_default.is)
 
-pub run-requires-clause-phase : goal.run-requires-clause-phase
-run-requires-clause-phase g c = sym c.phase.ensures ∙ c.in-Some.is ∙ ap (λ (next : Phase). Some next) c.in-Running.is
+pub run-requires : goal.run-requires
+run-requires g c = (search rules, (c.requires.whole, (c.requires.fuel, sym c.phase.ensures ∙ c.in-Some.is ∙ ap (λ (next : Phase). Some next) c.in-Running.is)))
 
-pub enter-requires-clause-phase : goal.enter-requires-clause-phase
-enter-requires-clause-phase g c = sym c.phase.ensures ∙ c.in-Some.is ∙ ap (λ (next : Phase). Some next) c.in-AtCall.is
+pub enter-requires : goal.enter-requires
+enter-requires g c = (search rules, (c.requires.whole, sym c.phase.ensures ∙ c.in-Some.is ∙ ap (λ (next : Phase). Some next) c.in-AtCall.is))
 
-pub call-requires-clause-phase : goal.call-requires-clause-phase
-call-requires-clause-phase g c = sym c.phase.ensures ∙ c.in-Some.is ∙ ap (λ (next : Phase). Some next) c.in-Entered.is
+pub call-requires : goal.call-requires
+call-requires g c = (search rules, (c.requires.whole, (c.requires.few, sym c.phase.ensures ∙ c.in-Some.is ∙ ap (λ (next : Phase). Some next) c.in-Entered.is)))
 
-pub leave-requires-clause-phase : goal.leave-requires-clause-phase
-leave-requires-clause-phase g c = sym c.phase.ensures ∙ c.in-Some.is ∙ ap (λ (next : Phase). Some next) c.in-Done.is
+pub leave-requires : goal.leave-requires
+leave-requires g c = (search rules, (c.requires.whole, sym c.phase.ensures ∙ c.in-Some.is ∙ ap (λ (next : Phase). Some next) c.in-Done.is))
 
 pub returns-in-AtCall-clause-goes : goal.returns-in-AtCall-clause-goes
 returns-in-AtCall-clause-goes g c =

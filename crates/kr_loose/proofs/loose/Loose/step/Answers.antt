@@ -1,4 +1,4 @@
-use Rattle.std.proofs.Common.{refl, sym, subst, ◌∙◌}
+use Rattle.std.proofs.Common.{rules, refl, sym, subst, ◌∙◌}
 use Rattle.kr_core.specs.Kernel.{IsPicked}
 use Rattle.kr_core.specs.kr_turns.kr_stops.Watching.{watching}
 use Rattle.kr_loose.proofs.GoingLemmas.{calls-grow, has-stepped, none-of, picked-lives, some-of}
@@ -14,10 +14,11 @@ returns-in_default-clause-steps g c = (
   refl,
 )
 
-pub go-requires-clause-lives : goal.go-requires-clause-lives
-go-requires-clause-lives g c =
+pub go-requires : goal.go-requires
+go-requires g c =
     let number = g.P.Places.number in
-    picked-lives number c.args.pick c.in-Some.pid _ (subst (λ o. IsPicked number c.args.pick c.args.self.now.kernel o) c.in-Some.is c.picked.ensures)
+    let lives = picked-lives number c.args.pick c.in-Some.pid _ (subst (λ o. IsPicked number c.args.pick c.args.self.now.kernel o) c.in-Some.is c.picked.ensures) in
+    (search rules, (c.requires.whole, (c.requires.fuel, (c.requires.few, lives))))
 
 pub returns-clause-steps : goal.returns-clause-steps
 returns-clause-steps g c =
