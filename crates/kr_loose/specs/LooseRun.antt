@@ -58,7 +58,7 @@ module _ {S : Type 0} (watcher : Watcher S) (marks : ℕ) (table : List Row) whe
   -- of the process that is picked; where none is ready nothing changes
   abbrev pub step_of : (pick fuel : ℕ) → Option (Process ℕ Image) → Loose S → Loose S
   step_of pick fuel None l = l
-  step_of pick fuel (Some p) l = noted pick p.pid (moved fuel p (between_of p.pid l.paused) l.machine l.paused) l
+  step_of pick fuel (Some p) l = noted pick p.pid (moved watcher marks table fuel p (between_of p.pid l.paused) l.machine l.paused) l
 
   abbrev pub step : (pick fuel : ℕ) → Loose S → Loose S
   step pick fuel l = step_of pick fuel (picked_process l.machine.state pick) l
@@ -68,7 +68,7 @@ module _ {S : Type 0} (watcher : Watcher S) (marks : ℕ) (table : List Row) whe
 module _ {S : Type 0} (watching : Watching S) (marks : ℕ) (table : List Row) where
   pub record IsStepOf (pick fuel : ℕ) (p : Process ℕ Image) (old new : Loose S) : Type 0 where
     pub made : Moved S
-    pub moves : IsMoved fuel p (between_of p.pid old.paused) old.machine old.paused made
+    pub moves : IsMoved watching marks table fuel p (between_of p.pid old.paused) old.machine old.paused made
     pub leaves : new ≡ noted pick p.pid made old
 
 -- ---- a run

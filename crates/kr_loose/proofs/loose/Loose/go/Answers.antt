@@ -7,7 +7,7 @@ use Rattle.kr_loose.proofs.GoingLemmas.{gone, has-phase}
 use Rattle.kr_loose.proofs.loose.Loose.go.Goals as goal
 
 pub unreachable-requires : goal.unreachable-requires
-unreachable-requires g c = has-phase g.P.Places.number c.args.pid _ c.requires.lives (sym c.phase.ensures ∙ c.in_default.is)
+unreachable-requires g c = has-phase g.P.Places.number c.args.pid c.args.self.now.kernel c.requires.lives (sym c.phase.ensures ∙ c.in_default.is)
 
 pub run-requires : goal.run-requires
 run-requires g c = (search rules, (c.requires.whole, (c.requires.fuel, sym c.phase.ensures ∙ c.in-Some.is ∙ ap (λ (next : Phase). Some next) c.in-Running.is)))
