@@ -1,18 +1,18 @@
-use Rattle.std.proofs.Common.{Some, ap, arith, ◌∙◌}
+use Rattle.std.proofs.Common.{rules, Some, ap, arith, ◌∙◌}
 use Rattle.kr_loose.specs.kr_core.declared.paused.Phase.{Phase}
 use Rattle.core_tests.proofs.stepped.step.Goals as goal
 
-pub run_pid-requires-clause-phase : goal.run_pid-requires-clause-phase
-run_pid-requires-clause-phase g c = c.requires.stands ∙ ap (λ (p : Phase). Some p) c.in-Running.is
+pub run_pid-requires : goal.run_pid-requires
+run_pid-requires g c = (search rules, (c.requires.whole, (search rules, c.requires.stands ∙ ap (λ (p : Phase). Some p) c.in-Running.is)))
 
-pub enter-requires-clause-phase : goal.enter-requires-clause-phase
-enter-requires-clause-phase g c = c.requires.stands ∙ ap (λ (p : Phase). Some p) c.in-AtCall.is
+pub enter-requires : goal.enter-requires
+enter-requires g c = (search rules, (c.requires.whole, c.requires.stands ∙ ap (λ (p : Phase). Some p) c.in-AtCall.is))
 
-pub plain-requires-clause-phase : goal.plain-requires-clause-phase
-plain-requires-clause-phase g c = c.requires.stands ∙ ap (λ (p : Phase). Some p) c.in-Entered.is
+pub plain-requires : goal.plain-requires
+plain-requires g c = (search rules, (c.requires.whole, (c.requires.few, c.requires.stands ∙ ap (λ (p : Phase). Some p) c.in-Entered.is)))
 
-pub leave-requires-clause-phase : goal.leave-requires-clause-phase
-leave-requires-clause-phase g c = c.requires.stands ∙ ap (λ (p : Phase). Some p) c.in-Done.is
+pub leave-requires : goal.leave-requires
+leave-requires g c = (search rules, (c.requires.whole, c.requires.stands ∙ ap (λ (p : Phase). Some p) c.in-Done.is))
 
 pub returns-in-Running-clause-calls : goal.returns-in-Running-clause-calls
 returns-in-Running-clause-calls g c = let same = c.in_ok-ran.ensures.moves.calls in omega arith
