@@ -14,14 +14,11 @@ plain-requires g c = (search rules, (c.requires.whole, (c.requires.few, c.requir
 pub leave-requires : goal.leave-requires
 leave-requires g c = (search rules, (c.requires.whole, c.requires.stands ∙ ap (λ (p : Phase). Some p) c.in-Done.is))
 
-pub returns-in-Running-clause-calls : goal.returns-in-Running-clause-calls
-returns-in-Running-clause-calls g c = let same = c.in_ok-ran.ensures.moves.calls in omega arith
+pub returns-in_ok-append-in-AtCall-clause-calls : goal.returns-in_ok-append-in-AtCall-clause-calls
+returns-in_ok-append-in-AtCall-clause-calls g c = let same = (c.in_ok-enter-in-AtCall.ensures.moves 0).calls in omega arith
 
-pub returns-in-AtCall-clause-calls : goal.returns-in-AtCall-clause-calls
-returns-in-AtCall-clause-calls g c = let same = (c.in_ok-enter.ensures.moves 0).calls in omega arith
+pub returns-in_ok-append-in-Entered-clause-calls : goal.returns-in_ok-append-in-Entered-clause-calls
+returns-in_ok-append-in-Entered-clause-calls g c = let same = (c.in_ok-over-in-Entered.ensures.moves 0).calls in omega arith
 
-pub returns-in-Entered-clause-calls : goal.returns-in-Entered-clause-calls
-returns-in-Entered-clause-calls g c = let same = (c.in_ok-over.ensures.moves 0).calls in omega arith
-
-pub returns-in-Done-clause-calls : goal.returns-in-Done-clause-calls
-returns-in-Done-clause-calls g c = let same = (c.in_ok-leave.ensures.moves 0).calls in omega arith
+pub returns-in_ok-append-in-Done-clause-calls : goal.returns-in_ok-append-in-Done-clause-calls
+returns-in_ok-append-in-Done-clause-calls g c = let same = (c.in_ok-leave-in-Done.ensures.moves 0).calls in omega arith
