@@ -1,8 +1,11 @@
-use Rattle.std.proofs.Common.{◌∙◌, subst, sym}
+use Rattle.std.proofs.Common.{◌∙◌, ap, subst, sym}
 use Rattle.pt_faker.proofs.StopLemmas.{edited-then, on_ok, request-edits}
 use Rattle.pt_tracer.specs.Agreeing.{WalksAt}
 use Rattle.pt_tracer.specs.Pausing.{Pausing}
 use Rattle.pt_tracer.proofs.AgreeLemmas.{edited-agrees, edited-walks, walks-none}
+use Rattle.pt_tracer.proofs.UnmetLemmas.{unmet-kept}
+use Rattle.pt_tracer.specs.Watched.{unmet_behind_decoding, unmet_by_identities}
+use Rattle.pt_faker.specs.Stopping.{after_request}
 use Rattle.pt_tracer.proofs.tracer.Tracer.enter.Goals as goal
 
 pub take_up-requires : goal.take_up-requires
@@ -23,7 +26,7 @@ returns-in-Ok-clause-edits g c =
     let u = g.T.Tracee.stopped c.request.new.self in
     record {
       edits = edited-then t u _ (request-edits t c.pid-pid.ensures.lives u c.in-Ok.ensures.after) c.take_up.ensures.edits.edits;
-      rest = c.take_up.ensures.edits.rest ∙ c.in-Ok.ensures.rest;
+      rest = c.take_up.ensures.edits.rest ∙ (λ i. (c.in-Ok.ensures.rest i).0);
     }
 
 pub returns-in-Err-Err-clause-walks : goal.returns-in-Err-Err-clause-walks
@@ -35,11 +38,28 @@ returns-in-Err-Err-clause-walks g c =
 pub returns-in-Err-Err-clause-edits : goal.returns-in-Err-Err-clause-edits
 returns-in-Err-Err-clause-edits g c = record {
   edits = request-edits (g.T.Tracee.stopped c.args.t.now) c.pid-pid.ensures.lives (g.T.Tracee.stopped c.request.new.self) c.in-Err-Err.ensures.after;
-  rest = c.in-Err-Err.ensures.rest;
+  rest = λ i. (c.in-Err-Err.ensures.rest i).0;
 }
 
 pub returns-in-Err-NoMemory-clause-edits : goal.returns-in-Err-NoMemory-clause-edits
 returns-in-Err-NoMemory-clause-edits g c = record {
   edits = request-edits (g.T.Tracee.stopped c.args.t.now) c.pid-pid.ensures.lives (g.T.Tracee.stopped c.request.new.self) c.in-Err-NoMemory.ensures.after;
-  rest = c.in-Err-NoMemory.ensures.rest;
+  rest = λ i. (c.in-Err-NoMemory.ensures.rest i).0;
 }
+
+pub returns-in-Ok-clause-noted : goal.returns-in-Ok-clause-noted
+returns-in-Ok-clause-noted g c =
+    let t = g.T.Tracee.stopped c.args.t.now in
+    let x = c.args.self.now.tracing in
+    let old = g.T.Peeks.unmet c.args.t.now in
+    let before = unmet-kept g.T.Peeks.unmet g.met.T.Tracee.unmet_is_told c.args.t.now c.request.new.self c.in-Ok.ensures.rest in
+    on_ok c.take_up.result
+    (λ e. e ∙ (λ i. unmet_by_identities x c.in-Ok.request (c.in-Ok.ensures.after i) x.identities (before i)) ∙ ap (λ r. unmet_behind_decoding x (after_request t) r old) (sym c.in-Ok.ensures.given.0))
+    c.take_up.ensures.noted
+
+pub returns-in-Err-Err-clause-noted : goal.returns-in-Err-Err-clause-noted
+returns-in-Err-Err-clause-noted g c =
+    let t = g.T.Tracee.stopped c.args.t.now in
+    let x = c.args.self.now.tracing in
+    let old = g.T.Peeks.unmet c.args.t.now in
+    unmet-kept g.T.Peeks.unmet g.met.T.Tracee.unmet_is_told c.args.t.now c.request.new.self c.in-Err-Err.ensures.rest ∙ ap (λ r. unmet_behind_decoding x (after_request t) r old) (sym c.in-Err-Err.ensures.given.0)
