@@ -92,6 +92,7 @@ def of_word(place, why, words):
         "Twice": lambda: f"this option was given before{first_place(place, words)}, and may be given once",
         "CalmAlone": lambda: "it needs --native, since only a run over mounts is judged",
         "CaseAlone": lambda: "beside --case nothing but --turns and --schedule may stand, and a case reads no folder: run proot itself for it",
+        "LooseAlone": lambda: "beside --loose neither --native, nor --schedule, nor an identity (-0, -i) may stand",
         "ZeroByte": lambda: "it has a zero byte",
     }.get(why, lambda: why)
     return f"{named}: {sentence()}"

@@ -12,6 +12,7 @@ OPTIONS = [
     (("--env",), "NAME=VALUE", "a variable of the environment, which has no others; may be given many times"),
     (("--turns",), "N", "at most N turns are made, up to 10000000; without it 1000000. Each call is a turn"),
     (("--schedule",), "'PICK*FUEL,..'", "who runs when, and for how many instructions"),
+    (("--loose",), "'PICK*FUEL,..'", "by single steps, which come apart as beneath a real tracer; tells whether the run was quiet"),
     (("--native",), None, "over mounts, without a tracer"),
     (("--calm",), None, "tell whether the run was calm; it needs --native"),
 ]

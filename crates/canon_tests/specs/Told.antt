@@ -1,6 +1,6 @@
 -- What a kernel in memory tells: by its rows, and names that are the same for all.
 use Rattle.std.specs.Prelude.{ℕ, Bool, true, false, List, nat_eq, Option, Some, None, Result, Ok, Err, bytes_eq, codes, if◌then◌else◌}
-use Rattle.std.specs.List.{find}
+use Rattle.std.specs.List.{find, list_all}
 use Rattle.pt_results.specs.pr_base.declared.errno.Errno.{Errno}
 use Rattle.pt_results.specs.pr_base.declared.errno.Errno.TheVariants.{EINVAL, ENOENT}
 use Rattle.pt_results.specs.pr_base.declared.peeks.PeekKind.{PeekKind}
@@ -34,7 +34,7 @@ abbrev pub text_told : Option Row → Result (List ℕ) Errno
 text_told (Some row) = text_in row.stands
 text_told None = Err ENOENT
 
--- nothing but links of the process directory stands there
+-- no link of the process directory
 abbrev pub is_steady : Stands → Bool
 is_steady stands.Dir = true
 is_steady stands.File = true
@@ -42,9 +42,9 @@ is_steady (stands.Link text) = true
 is_steady stands.Jump = false
 is_steady (stands.Fails e) = true
 
-abbrev pub steady_told : Option Row → Bool
-steady_told (Some row) = is_steady row.stands
-steady_told None = true
+-- of every path where none stands anywhere, and else of none
+abbrev pub steady_told : List Row → Bool
+steady_told rows = list_all (λ row. is_steady row.stands) rows
 
 -- descriptor 4 is a pipe
 abbrev pub base_told : ℕ → Option (List ℕ)

@@ -1,12 +1,12 @@
 -- The names that the kernel in memory tells are texts, and steady paths lead to no link of the process directory.
-use Rattle.std.proofs.Common.{◌≡◌, ◌≢◌, ℕ, Bool, true, false, [], ◌∷◌, Option, Some, None, Ok, refl, arith}
-use Rattle.std.specs.Prelude.{codes, nat_eq, IfSome, if◌then◌else◌}
+use Rattle.std.proofs.Common.{◌≡◌, ◌≢◌, ◌&&◌, ℕ, Bool, true, false, cond, List, [], ◌∷◌, Some, None, Ok, refl, arith}
+use Rattle.std.specs.Prelude.{bytes_eq, codes, nat_eq, IfSome, if◌then◌else◌}
 use Rattle.std.specs.List.{All}
 use Rattle.std.proofs.lemmas.List.Elements.{All-nil, All-cons}
 use Rattle.pt_results.specs.pr_base.Paths.{IsName}
 use Rattle.pt_results.specs.pr_base.Texts.{IsText}
 use Rattle.pt_results.specs.pr_base.declared.peeks.PeekKind.TheVariants.{Jump}
-use Rattle.canon_tests.specs.Told.{base_told, is_steady, kind_of, kind_told, steady_told}
+use Rattle.canon_tests.specs.Told.{base_told, is_steady, kind_of, kind_told, row_at, steady_told}
 use Rattle.canon_tests.specs.declared.told.Row.{Row}
 use Rattle.canon_tests.specs.declared.told.Stands.{Stands}
 use Rattle.canon_tests.specs.declared.told.Stands.TheVariants as stands
@@ -54,6 +54,14 @@ base_text fd = by (nat_eq fd 4)
     by true = tt
     by false = data_text
 
+and_first : (a b : Bool) → (a && b) ≡ true → a ≡ true
+and_first true b h = refl
+and_first false b h = h
+
+and_second : (a b : Bool) → (a && b) ≡ true → b ≡ true
+and_second true b h = h
+and_second false b h = absurd cc
+
 no_jump_stands : (x : Stands) → is_steady x ≡ true → kind_of x ≢ Ok Jump
 no_jump_stands stands.Dir steady h = absurd cc
 no_jump_stands stands.File steady h = absurd cc
@@ -61,6 +69,10 @@ no_jump_stands (stands.Link text) steady h = absurd cc
 no_jump_stands stands.Jump steady h = absurd cc
 no_jump_stands (stands.Fails e) steady h = absurd cc
 
-pub no_jump_told : (o : Option Row) → steady_told o ≡ true → kind_told o ≢ Ok Jump
-no_jump_told (Some row) steady h = no_jump_stands row.stands steady h
-no_jump_told None steady h = absurd cc
+pub no_jump_told : (rows : List Row) (host : List ℕ) → steady_told rows ≡ true → kind_told (row_at rows host) ≢ Ok Jump
+no_jump_told [] host steady h = absurd cc
+no_jump_told (row ∷ rows) host steady h = at (no_jump_told rows host (and_second (is_steady row.stands) (steady_told rows) steady)) (bytes_eq row.host host) h
+  where
+    at : kind_told (row_at rows host) ≢ Ok Jump → (b : Bool) → kind_told (cond b (Some row) (row_at rows host)) ≢ Ok Jump
+    at later true h = no_jump_stands row.stands (and_first (is_steady row.stands) (steady_told rows) steady) h
+    at later false h = later h

@@ -1,8 +1,8 @@
 //! A kernel in memory, which tells what its rows say.
-ghost use Rattle.std.specs.Prelude.{◌≡◌, IfOk, OnOk};
+ghost use Rattle.std.specs.Prelude.{◌≡◌, ◌&&◌, IfOk, OnOk};
 ghost use Rattle.std.specs.Option.{option_copied};
 ghost use Rattle.pt_results.specs.pr_base.Peeks.{IsPeeked};
-ghost use Rattle.canon_tests.specs.Told.{is_steady, row_at, kind_of, text_in};
+ghost use Rattle.canon_tests.specs.Told.{is_steady, row_at, kind_of, steady_told, text_in};
 
 use crate::told::{Row, Stands};
 use pt_results::below::{BaseKind, Bytes, Errno, NoMemory, PeekFault, PeekKind, Peeks};
@@ -14,6 +14,7 @@ use std::alloc::Global;
 pub struct Told {
     rows: Vec<Row>,
     calls: u32,
+    unmet: bool,
     alloc: Global,
 }
 
@@ -23,6 +24,7 @@ impl Told {
         Told {
             rows: Vec::new(alloc),
             calls,
+            unmet: true,
             alloc,
         }
     }
@@ -67,13 +69,29 @@ impl Told {
 
     /// One call less finds memory.
     fn count(&mut self) -> Result<(), NoMemory>
-        ensures { self.new.rows ≡ self.old.rows }
+        ensures rows { self.new.rows ≡ self.old.rows }
+        ensures unmet { self.new.unmet ≡ self.old.unmet }
     {
         if self.calls == 0 {
             return Err(NoMemory);
         }
         self.calls -= 1;
         Ok(())
+    }
+
+    /// Notes a walk: whether it is steady.
+    fn note(&mut self)
+        ensures rows { self.new.rows ≡ self.old.rows }
+        ensures unmet { self.new.unmet ≡ (self.old.unmet && steady_told self.old.rows.items) }
+    {
+        self.unmet = self.unmet && self.has_no_jump();
+    }
+
+    /// Whether no link of the process directory stands anywhere.
+    fn has_no_jump(&self) -> bool
+        ensures { result ≡ steady_told self.now.rows.items }
+    {
+        self.rows.iter().all(|row| is_steady(&row.stands))
     }
 
     /// The row of a host path.
@@ -112,7 +130,7 @@ fn text_in(alloc: Global, stands: &Stands) -> Result<Bytes, PeekFault>
     }
 }
 
-/// Whether a walk that comes to what stands at a path is steady.
+/// Whether what stands at a path is no link of the process directory.
 fn is_steady(stands: &Stands) -> bool
     ensures { result ≡ is_steady stands.now }
 {
@@ -129,14 +147,17 @@ impl Peeks for Told {
     ghost use Rattle.canon_tests.specs.Told.{base_told, cwd_told, exe_told, kind_told, steady_told, text_told};
     ghost use Rattle.canon_tests.specs.ToldNames.{base_text, data_text, n_text, no_jump_told};
 
-    ghost peeked = { λ told. record { kind = λ host. kind_told (row_at told.rows.items host); link_text = λ host. text_told (row_at told.rows.items host); head = λ host n. Err EACCES; steady = λ host. steady_told (row_at told.rows.items host); base_kind = λ pid fd. Other; base_name = λ pid fd. base_told fd; cwd_name = λ pid. cwd_told; exe_name = λ pid. exe_told } };
+    ghost peeked = { λ told. record { kind = λ host. kind_told (row_at told.rows.items host); link_text = λ host. text_told (row_at told.rows.items host); head = λ host n. Err EACCES; steady = λ host. steady_told told.rows.items; base_kind = λ pid fd. Other; base_name = λ pid fd. base_told fd; cwd_name = λ pid. cwd_told; exe_name = λ pid. exe_told } };
 
     ghost Kept = { Unit {0} };
 
     ghost kept = { λ told. tt };
 
+    ghost unmet = { λ told. told.unmet };
+
     fn kind(&mut self, host: &[u8]) -> Result<PeekKind, PeekFault> {
         self.count()?;
+        self.note();
         match self.row(host) {
             Some(row) => kind_of(&row.stands),
             None => Err(PeekFault::Err(Errno::ENOENT)),
@@ -145,22 +166,21 @@ impl Peeks for Told {
 
     fn link_text(&mut self, host: &[u8]) -> Result<Bytes, PeekFault> {
         self.count()?;
+        self.note();
         match self.row(host) {
             Some(row) => text_in(self.alloc, &row.stands),
             None => Err(PeekFault::Err(Errno::ENOENT)),
         }
     }
 
-    fn head(&mut self, _host: &[u8], _n: u32) -> Result<Bytes, PeekFault> {
+    fn head(&mut self, host: &[u8], _n: u32) -> Result<Bytes, PeekFault> {
+        self.note();
         Err(PeekFault::Err(Errno::EACCES))
     }
 
-    fn steady(&mut self, host: &[u8]) -> Result<bool, NoMemory> {
+    fn steady(&mut self, _host: &[u8]) -> Result<bool, NoMemory> {
         self.count()?;
-        match self.row(host) {
-            Some(row) => Ok(is_steady(&row.stands)),
-            None => Ok(true),
-        }
+        Ok(self.has_no_jump())
     }
 
     fn base_kind(&mut self, _pid: u32, _fd: u32) -> BaseKind {
@@ -187,5 +207,7 @@ impl Peeks for Told {
 
     ghost names_are_texts = { λ told. record { base = λ pid fd. base_text fd; cwd = λ pid. data_text; exe = λ pid. n_text } };
 
-    ghost steady_is_no_jump = { λ told host. no_jump_told (row_at told.rows.items host) };
+    ghost steady_is_no_jump = { λ told host. no_jump_told told.rows.items host };
+
+    ghost fronts_are_steady = { λ told name host are steady. (steady, steady) };
 }

@@ -3,7 +3,7 @@
 
 use crate::tables;
 use crate::walking::Want::{At, Refused};
-use crate::walking::{Bench, Case, End, THERE, listed, meets};
+use crate::walking::{Bench, Case, End, THERE, calls_of_first, listed, meets, without_jumps};
 use pt_results::below::{Bytes, Errno, Last, NoMemory, Request, Tags, WalkErr, WalkMode, Walker};
 use std::alloc::Global;
 use std::test::Fail;
@@ -309,6 +309,24 @@ fn few_peeks_are_made(rt: HostRuntime) -> Result<(), Fail> {
     Ok(())
 }
 
+/// Paths, and how many calls their first walks take that are asked whether they are steady: one beside the peeks, for the whole host path; and one
+/// for each host path in front of which that doesn't stand, as where a binding begins or behind `..`.
+const CALLS_OF_FIRST: &[(&[u8], u32)] = &[
+    (b"/", 0),
+    (b"/a", 4),
+    (b"/a/b/f", 8),
+    (b"/mnt/n", 8),
+    (b"/a/../b", 10),
+];
+
+#[test]
+fn steadiness_is_asked_once(rt: HostRuntime) -> Result<(), Fail> {
+    for (path, calls) in CALLS_OF_FIRST {
+        assert!(rt; calls_of_first(rt.alloc(), path)? == Some(*calls));
+    }
+    Ok(())
+}
+
 #[test]
 fn want_of_memory_is_told(rt: HostRuntime) -> Result<(), Fail> {
     let mut bench = nested(rt.alloc())?;
@@ -343,7 +361,7 @@ fn want_of_memory_is_told(rt: HostRuntime) -> Result<(), Fail> {
 #[test]
 fn answers_are_remembered(rt: HostRuntime) -> Result<(), Fail> {
     let table = tables::one_binding(rt.alloc())?;
-    let mut told = listed(rt.alloc())?;
+    let mut told = without_jumps(rt.alloc())?;
     let tags = Tags::new(rt.alloc());
     let mut walker = Walker::new(rt.alloc(), table)?;
     let wanted = At(b"/f", b"/g/f", 0, THERE);

@@ -2,6 +2,7 @@
 ghost use Rattle.std.specs.Prelude.{◌≢◌};
 
 use crate::kernel::Told;
+use crate::tables;
 use crate::texts::is_text;
 use crate::told::Stands;
 use pt_results::below::{
@@ -218,6 +219,15 @@ const JUMPS: &[&[u8]] = &[
 
 /// A kernel with the tree of which these tests speak.
 pub fn listed(alloc: Global) -> Result<Told, NoMemory> {
+    let mut told = without_jumps(alloc)?;
+    for jump in JUMPS {
+        told.add(jump, Stands::Jump)?;
+    }
+    Ok(told)
+}
+
+/// One with this tree but for the links of the process directory, so that all its paths are steady.
+pub fn without_jumps(alloc: Global) -> Result<Told, NoMemory> {
     let mut told = Told::new(alloc, 1_000_000);
     told.add_root()?;
     for dir in DIRS {
@@ -230,8 +240,22 @@ pub fn listed(alloc: Global) -> Result<Told, NoMemory> {
     for link in LINKS {
         told.add_link(link.0, link.1)?;
     }
-    for jump in JUMPS {
-        told.add(jump, Stands::Jump)?;
-    }
     Ok(told)
+}
+
+/// With how few calls of the kernel a path from the root has its answer, by a walker that remembers nothing yet: its peeks, and what is asked of
+/// whether it is steady.
+pub fn calls_of_first(alloc: Global, path: &[u8]) -> Result<Option<u32>, NoMemory> {
+    let mut told = without_jumps(alloc)?;
+    let tags = Tags::new(alloc);
+    for calls in 0..64 {
+        let table = tables::one_binding(alloc)?;
+        let mut walker = Walker::new(alloc, table)?;
+        told.set_calls(calls);
+        let answer = walker.canon(&mut told, &tags, b"/", path, WalkMode::Look);
+        if !matches!(answer, Err(WalkErr::NoMemory)) {
+            return Ok(Some(calls));
+        }
+    }
+    Ok(None)
 }

@@ -67,7 +67,7 @@ fn run<P: Places, S: Stops, const M: u8>(
 
 /// What is seen of a guest.
 fn seen<const M: u8>(alloc: Global, elf: &[u8], go_round: bool) -> Result<Bytes, Fail> {
-    let mut loose = Loose::new(noted::<M>(alloc, elf)?);
+    let mut loose = Loose::new(alloc, noted::<M>(alloc, elf)?);
     Ok(run(alloc, &mut loose, go_round)?)
 }
 

@@ -110,6 +110,8 @@ impl Noting {
 }
 
 impl Stops for Noting {
+    ghost use Rattle.std.specs.Prelude.{false};
+
     ghost enters = { λ x t y u. Unit {0} };
 
     ghost exits = { λ x t y u. Unit {0} };
@@ -117,6 +119,8 @@ impl Stops for Noting {
     ghost bears = { λ x parent child y. Unit {0} };
 
     ghost forgets = { λ x pid y. Unit {0} };
+
+    ghost asks = { λ x t. false };
 
     ghost agrees = { λ x t user. Unit {0} };
 

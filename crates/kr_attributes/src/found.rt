@@ -63,14 +63,14 @@ fn host_of<T: Copy>(place: Option<Place<T>>) -> Option<Host>
 }
 
 /// Whether a descriptor stands for the working directory, as AT_FDCWD does.
-pub(crate) fn is_working_directory(fd: i32) -> bool
+pub fn is_working_directory(fd: i32) -> bool
     ensures { result ≡ is_working_directory fd }
 {
     fd == AT_FDCWD
 }
 
 /// The object that is a process's working directory.
-pub(crate) fn working_directory<T: Copy, const M: u8>(state: &State<T, M>, pid: u32) -> Host
+pub fn working_directory<T: Copy, const M: u8>(state: &State<T, M>, pid: u32) -> Host
     requires { IsSoundFor pid state.now }
     ensures { result ≡ (known image_layout pid (meaning state.now)).caller.cwd }
 {

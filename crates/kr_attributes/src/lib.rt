@@ -13,7 +13,7 @@
 #![tactic(auto)]
 
 pub mod directories;
-mod found;
+pub mod found;
 pub mod links;
 pub mod modes;
 pub mod names;

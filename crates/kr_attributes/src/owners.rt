@@ -16,7 +16,7 @@ use kr_seen::below::{Errno, Host, Ino, Outcome, State, Target, User};
 use kr_seen::{number, refused};
 
 /// Leaves a number as it is.
-const UNCHANGED: u32 = u32::MAX;
+pub const UNCHANGED: u32 = u32::MAX;
 
 /// What chown(2) comes to.
 #[derive(Clone, Copy)]
@@ -162,7 +162,7 @@ fn may_give(user: User, owner: User, uid: u32, gid: u32) -> bool
 }
 
 /// The number that is to stand, where all ones leave the old one.
-fn or_old(new: u32, old: u32) -> u32
+pub fn or_old(new: u32, old: u32) -> u32
     ensures { result ≡ or_old new old }
 {
     if new == UNCHANGED { old } else { new }

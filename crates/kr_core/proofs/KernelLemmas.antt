@@ -1,5 +1,5 @@
 -- Which process a turn picks, and what is left where bytes are forgotten.
-use Rattle.std.proofs.Common.{◌≡◌, ◌≢◌, ℕ, zero, suc, ◌≤◌, Bool, true, false, not, ◌&&◌, cond, List, [], ◌∷◌, Option, Some, None, refl, sym, ap, subst, ◌∙◌, arith, eq-eqb, slice_get, nat_eq}
+use Rattle.std.proofs.Common.{◌≡◌, ◌≢◌, ℕ, zero, suc, ◌≤◌, Bool, true, false, not, ◌&&◌, cond, List, [], ◌∷◌, Option, Some, None, refl, sym, ap, subst, ◌∙◌, arith, eq-eqb, eqb-true, slice_get, nat_eq}
 use Rattle.std.specs.Prelude.{map as map_list, ◌%◌, length}
 use Rattle.std.specs.List.{filter, find}
 use Rattle.std.specs.Option.{option_map}
@@ -68,7 +68,11 @@ module _ {P S T : Type 0} {M : ℕ} (number : T → ℕ) (k : Kernel P S T M) (p
 
 -- ---- the processes that live
 
--- where a list isn't empty, none of its images is
+-- where a list is empty, each of its images is, and where it isn't, none is
+pub none-live : {A B C : Type 0} (f : A → B) (g : B → C) (xs : List A) → nat_eq (length xs) 0 ≡ true → map_list g (map_list f xs) ≡ []
+none-live f g [] e = refl
+none-live f g (x ∷ xs) e = let no : suc (length xs) ≡ 0 = eqb-true (suc (length xs)) 0 e in absurd cc
+
 pub some-live : {A B C : Type 0} (f : A → B) (g : B → C) (xs : List A) → nat_eq (length xs) 0 ≡ false → map_list g (map_list f xs) ≢ []
 some-live f g [] e = absurd cc
 some-live f g (x ∷ xs) e = λ none. absurd cc

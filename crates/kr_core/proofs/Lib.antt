@@ -15,7 +15,9 @@ pub use Rattle.kr_turns.proofs as kr_turns
 pub use Rattle.kr_turns.proofs.kr_stops as kr_stops
 pub use Rattle.kr_first.proofs.kr_start as kr_start
 pub mod KernelLemmas
+mod MetLemmas
 pub mod PausedLemmas
 pub mod StandingLemmas
 pub mod SteppingLemmas
+pub mod CountingLemmas
 pub mod StartLemmas

@@ -1,5 +1,5 @@
 -- A kernel as its callers see it, its start, and its turns.
-use Rattle.std.specs.Prelude.{◌≡◌, ◌≢◌, ◌<◌, ◌^◌, ℕ, suc, Bool, true, List, [], length, Option, Some, None, nat_eq, Result, Ok, Err, if◌then◌else◌}
+use Rattle.std.specs.Prelude.{◌≡◌, ◌≢◌, ◌≤◌, ◌<◌, ◌^◌, ℕ, suc, Bool, true, List, [], length, Option, Some, None, nat_eq, Result, Ok, Err, if◌then◌else◌}
 use Rattle.std.specs.Option.{option_map}
 use Rattle.kr_turns.specs.pr_base.declared.errno.Errno.{Errno}
 use Rattle.kr_first.specs.kr_inode.declared.user.User.{User}
@@ -28,7 +28,8 @@ use Rattle.kr_core.specs.declared.kernel.Turned.TheVariants.{Ran, Deadlock, Over
 use Rattle.kr_turns.specs.kr_calm.declared.rule.Rule.{Rule}
 
 -- a kernel: its view, its watcher, its state, the status of the process that ended last, the calm rule that was broken first, how many
--- turns it made and how many calls it carried out, and where those of its processes stand that don't run. It isn't whole after want of memory
+-- turns it made and how many calls it carried out, how many of these altered the shape of the tree, and how many the bytes of a file, whether a
+-- walk looked up a name in the process directory, and where those of its processes stand that don't run. It isn't whole after want of memory
 pub record Kernel (P S T : Type 0) (M : ℕ) : Type 0 where
   pub places : P
   pub stops : S
@@ -37,6 +38,9 @@ pub record Kernel (P S T : Type 0) (M : ℕ) : Type 0 where
   pub broken : Option Rule
   pub turns : ℕ
   pub calls : ℕ
+  pub shape_changes : ℕ
+  pub byte_changes : ℕ
+  pub met : Bool
   pub paused : List Paused
   pub whole : Bool
 
@@ -59,6 +63,7 @@ module _ {P S T : Type 0} {M : ℕ} (number : T → ℕ) where
     pub runs : k.whole ≡ true → Runs number (mounts k.places) k.calls k.state
     pub agreement : k.whole ≡ true → AgreesIn agrees k.stops k.state
     pub standing : k.whole ≡ true → AreStanding is_free k.stops (machine k).state k.paused
+    pub counted : (k.shape_changes ≤ k.calls) × (k.byte_changes ≤ k.calls)
 
   -- ---- a start
 
@@ -70,6 +75,9 @@ module _ {P S T : Type 0} {M : ℕ} (number : T → ℕ) where
     pub broken : k.broken ≡ first_rule M reach
     pub turns : k.turns ≡ 0
     pub calls : k.calls ≡ 0
+    pub shape_changes : k.shape_changes ≡ 0
+    pub byte_changes : k.byte_changes ≡ 0
+    pub met : k.met ≡ reach.met_proc
     pub running : k.paused ≡ []
     pub whole : k.whole ≡ true
 
@@ -124,6 +132,9 @@ module _ {P S T : Type 0} {M : ℕ} (number : T → ℕ) where
     pub broken : new.broken ≡ old.broken
     pub turns : new.turns ≡ old.turns
     pub calls : new.calls ≡ old.calls
+    pub shape_changes : new.shape_changes ≡ old.shape_changes
+    pub byte_changes : new.byte_changes ≡ old.byte_changes
+    pub met : new.met ≡ old.met
     pub paused : new.paused ≡ old.paused
     pub whole : new.whole ≡ old.whole
 
@@ -131,6 +142,8 @@ module _ {P S T : Type 0} {M : ℕ} (number : T → ℕ) where
 pub record HasNoTurn {P S T : Type 0} {M : ℕ} (k : Kernel P S T M) : Type 0 where
   pub turns : k.turns ≡ 0
   pub calls : k.calls ≡ 0
+  pub shape_changes : k.shape_changes ≡ 0
+  pub byte_changes : k.byte_changes ≡ 0
   pub running : k.paused ≡ []
   pub whole : k.whole ≡ true
 

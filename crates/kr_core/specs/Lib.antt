@@ -29,4 +29,5 @@ pub mod Moving
 pub mod Standing
 pub mod Kernel
 pub mod Stepping
+pub mod Counting
 pub mod Runs

@@ -1,17 +1,25 @@
 -- The steps of a kernel, and the parts of a turn that are made of them.
-use Rattle.std.specs.Prelude.{◌≡◌, ◌≤◌, ℕ, suc, Bool, true, false, List, [], Some, None, IsSome}
+use Rattle.std.specs.Prelude.{◌≡◌, ◌≤◌, ◌||◌, ℕ, suc, Bool, true, false, List, [], Some, None, IsSome}
 use Rattle.kr_turns.specs.rv_cpu.Run.{ran}
+use Rattle.kr_turns.specs.rv_cpu.declared.event.Event.{Event}
+use Rattle.kr_turns.specs.rv_cpu.declared.event.Event.TheVariants.{Next, Call, Killed}
 use Rattle.kr_turns.specs.kr_view.View.{Row}
 use Rattle.kr_first.specs.kr_model.State.{Image, Process, process}
-use Rattle.kr_turns.specs.CallSteps.{IsCarriedOut}
+use Rattle.kr_turns.specs.Breaking.{nothing_reached}
+use Rattle.kr_turns.specs.CallSteps.{IsCarriedOut, IsEntered}
 use Rattle.kr_turns.specs.Making.{EndsAs}
-use Rattle.kr_turns.specs.Turn.{IsTurnOf, IsWatchedCall}
+use Rattle.kr_turns.specs.PlainCall.{plain_reach}
+use Rattle.kr_turns.specs.Turn.{IsTurnOf, IsWatchedCall, Machine, calling}
 use Rattle.kr_turns.specs.declared.steps.After.{After}
 use Rattle.kr_turns.specs.declared.steps.After.TheVariants as after
 use Rattle.kr_turns.specs.declared.steps.Stretch.{Stretch}
+use Rattle.kr_turns.specs.kr_stops.Stopped.{Stopped}
 use Rattle.kr_turns.specs.kr_stops.Watching.{Watching}
 use Rattle.kr_core.specs.Between.{between_of, unpaused}
+use Rattle.kr_turns.specs.Steps.{picked_process}
 use Rattle.kr_core.specs.Kernel.{Kernel, machine, phase_of}
+use Rattle.kr_core.specs.declared.kernel.Turned.{Turned}
+use Rattle.kr_core.specs.declared.kernel.Turned.TheVariants.{Ran, Deadlock, Over}
 use Rattle.kr_core.specs.Moving.{Entry, Exit, Instructions, IsMoved, Plain, StepKind, computing, paused_after, paused_by}
 use Rattle.kr_core.specs.declared.paused.Begun.{Begun}
 use Rattle.kr_core.specs.declared.paused.Between.TheVariants.{Entered}
@@ -46,6 +54,7 @@ module _ {P S T : Type 0} {M : ℕ} (number : T → ℕ) where
     pub stays : machine number new ≡ machine number old
     pub paused : new.paused ≡ unpaused pid old.paused
     pub calls : new.calls ≡ old.calls
+    pub met : new.met ≡ old.met
     pub places : new.places ≡ old.places
     pub turns : new.turns ≡ old.turns
     pub whole : new.whole ≡ old.whole
@@ -104,3 +113,29 @@ module _ {P S T : Type 0} {M : ℕ} (number : T → ℕ) (w : Watching S) (table
     pub calls : new.calls ≤ suc old.calls
     pub places : new.places ≡ old.places
     pub turns : new.turns ≡ old.turns
+
+-- ---- whether the process directory was met
+
+module _ {S : Type 0} (marks : ℕ) (w : Watching S) (table : List Row) (asks : S → Stopped → Bool) where
+  -- in a whole call: at its first stop, or as it was carried out behind that
+  pub record HasMetAt (pid : ℕ) (m : Machine S) (before now : Bool) : Type 0 where
+    pub entered : Machine S
+    pub enters : IsEntered w marks pid m entered
+    pub met : now ≡ ((before || asks m.watcher (calling marks pid m.state)) || (plain_reach table pid entered.state nothing_reached).met_proc)
+
+  abbrev pub MetBehind : Event → (pid : ℕ) → Machine S → (before now : Bool) → Type 0
+  MetBehind Next pid m before now = now ≡ before
+  MetBehind Call pid m before now = HasMetAt pid m before now
+  MetBehind (Killed signal) pid m before now = now ≡ before
+
+module _ {P S T : Type 0} {M : ℕ} (number : T → ℕ) (w : Watching S) (table : List Row) (asks : S → Stopped → Bool) where
+  -- in a turn, whose instructions meet it nowhere
+  pub record HasMetIn (fuel pid : ℕ) (old : Kernel P S T M) (now : Bool) : Type 0 where
+    pub own : Process ℕ Image
+    pub lives : process pid (machine number old).state ≡ Some own
+    pub met : let end = ran fuel own.image.regs own.image.memory in MetBehind M w table asks end.event own.pid (computing own end.regs end.memory (machine number old)) old.met now
+
+  abbrev pub TurnMeets : (pick fuel : ℕ) → Kernel P S T M → Kernel P S T M → Turned → Type 0
+  TurnMeets pick fuel old new Ran = (p : Process ℕ Image) × (picked_process (machine number old).state pick ≡ Some p) × HasMetIn fuel p.pid old new.met
+  TurnMeets pick fuel old new Deadlock = new.met ≡ old.met
+  TurnMeets pick fuel old new Over = new.met ≡ old.met

@@ -1,18 +1,21 @@
 //! The kernel.
-ghost use Rattle.std.specs.Prelude.{◌≡◌, ◌≤◌, ◌<◌, ◌^◌, ◌↔◌, [], ℕ, suc, true, false, length, slice_get, IfOk, IsSome, OnOk};
+ghost use Rattle.std.specs.Prelude.{◌≡◌, ◌≤◌, ◌<◌, ◌^◌, ◌↔◌, ◌||◌, [], ℕ, suc, true, false, length, slice_get, IfOk, IsSome, OnOk};
 ghost use Rattle.std.specs.Option.{option_map, option_map_or};
 ghost use Rattle.kr_first.specs.law_allowed.Told.{SourcesAreNamed};
 ghost use Rattle.kr_turns.specs.kr_calm.Calm.{kept, rule_number};
 ghost use Rattle.kr_core.specs.Between.{between_of, is_exec_at, paused_at};
+ghost use Rattle.kr_core.specs.Counting.{IsCounted, raised};
 ghost use Rattle.kr_core.specs.Kernel.{Clears, IsPicked, Starts, StartsJudged, Turns, first_rule, machine, phase_of};
 ghost use Rattle.kr_core.specs.Moving.{Entry, Exit, Instructions, Plain, calls_execve};
-ghost use Rattle.kr_core.specs.Stepping.{BornRun, HasCalled, HasMadeCall, HasMoved, HasRunFor, HasTurned, IsLeftAt, RunsAgain, is_done};
+ghost use Rattle.kr_core.specs.Stepping.{BornRun, HasCalled, HasMadeCall, HasMetAt, HasMetIn, HasMoved, HasRunFor, HasTurned, TurnMeets, IsLeftAt, RunsAgain, is_done};
 ghost use Rattle.kr_first.specs.Started.{HasSizedProcesses, LeadsToDirectory};
 ghost use Rattle.kr_first.specs.Starting.{start_of, start_reach};
 ghost use Rattle.kr_first.specs.law_allowed.Texts.{IsText};
 ghost use Rattle.kr_first.specs.kr_start.Beginning.{CanLast};
 ghost use Rattle.kr_first.specs.kr_start.Start.{HasNoHolds};
-ghost use Rattle.kr_turns.specs.PlainCall.{plain_call};
+ghost use Rattle.kr_turns.specs.Breaking.{nothing_reached};
+ghost use Rattle.kr_turns.specs.PlainCall.{plain_call, plain_reach};
+ghost use Rattle.kr_turns.specs.Turn.{calling};
 ghost use Rattle.kr_turns.specs.declared.plain.CallEnd.TheVariants.{Waits};
 ghost use Rattle.kr_turns.specs.Steps.{ready_processes};
 ghost use Rattle.kr_turns.specs.kr_model.State.{process};
@@ -33,8 +36,8 @@ use kr_turns::below::{
     trees_are_kept,
 };
 use kr_turns::{
-    After, Halt, Stops, Stretch, enter_call, leave_call, make_call, picked, ready, register,
-    run_for,
+    After, EntryMade, Halt, Stops, Stretch, enter_call, leave_call, make_call, picked, ready,
+    register, run_for,
 };
 use std::alloc::Global;
 use std::marker::Model;
@@ -69,6 +72,12 @@ pub struct Kernel<P: Places, S: Stops, const MARKED: u8> {
     turns: u32,
     /// How many calls were carried out, those of turns among them.
     calls: u32,
+    /// How many of them altered the shape of the tree.
+    shape_changes: u64,
+    /// How many altered the bytes of a file.
+    byte_changes: u64,
+    /// Whether a walk looked up a name in the process directory, one of the start or of a peek among them.
+    met: bool,
     /// Those of its processes that don't run.
     paused: Vec<Paused>,
     /// Nothing is known of a state in which memory was wanting.
@@ -87,9 +96,9 @@ impl<P: Places, S: Stops, const MARKED: u8> Model for Kernel<P, S, MARKED> {
 
     ghost coded = { Prim.hlevel (codes, tree_code, memory_code, descriptors_code, kept_code {M = P.Mount} (Prim.hlevel (codes, P.Mount.code)), P.Mount.code, P.code, S.code) };
 
-    ghost view = { λ k. record { places = k.places; stops = k.stops; state = k.state; status = k.status; broken = k.broken; turns = k.turns; calls = k.calls; paused = k.paused.items; whole = k.whole } };
+    ghost view = { λ k. record { places = k.places; stops = k.stops; state = k.state; status = k.status; broken = k.broken; turns = k.turns; calls = k.calls; shape_changes = k.shape_changes; byte_changes = k.byte_changes; met = k.met; paused = k.paused.items; whole = k.whole } };
 
-    ghost invariant = { λ k. kernel.Stands P.number P.mounts S.agrees S.is_free (record { places = k.places; stops = k.stops; state = k.state; status = k.status; broken = k.broken; turns = k.turns; calls = k.calls; paused = k.paused.items; whole = k.whole }) };
+    ghost invariant = { λ k. kernel.Stands P.number P.mounts S.agrees S.is_free (record { places = k.places; stops = k.stops; state = k.state; status = k.status; broken = k.broken; turns = k.turns; calls = k.calls; shape_changes = k.shape_changes; byte_changes = k.byte_changes; met = k.met; paused = k.paused.items; whole = k.whole }) };
 }
 
 impl<P: Places + Drop, S: Stops + Drop, const MARKED: u8> Kernel<P, S, MARKED> {
@@ -158,6 +167,9 @@ impl<P: Places + Drop, S: Stops + Drop, const MARKED: u8> Kernel<P, S, MARKED> {
                     broken,
                     turns: 0,
                     calls: 0,
+                    shape_changes: 0,
+                    byte_changes: 0,
+                    met: started.reach.met_proc,
                     paused,
                     whole: true,
                 };
@@ -225,6 +237,8 @@ impl<P: Places, S: Stops, const MARKED: u8> Kernel<P, S, MARKED> {
         requires fuel { 1 ≤ fuel }
         requires phase { phase_of P.number pid self.old ≡ Some Phase.Running }
         ensures moves { IfOk result (λ done. HasMoved P.number (watching S.enters S.exits S.bears S.forgets) (P.mounts self.old.places) fuel pid (Instructions done) self.old self.new) }
+        ensures counted { OnOk result (IsCounted P.number self.old self.new) }
+        ensures met { OnOk result (self.new.met ≡ self.old.met) }
         ensures whole { OnOk result (self.new.whole ≡ true) }
     {
         let told = self.run(pid, fuel)?;
@@ -237,12 +251,14 @@ impl<P: Places, S: Stops, const MARKED: u8> Kernel<P, S, MARKED> {
         requires phase { phase_of P.number pid self.old ≡ Some Phase.AtCall }
         ensures moves { OnOk result ((fuel : ℕ) → HasMoved P.number (watching S.enters S.exits S.bears S.forgets) (P.mounts self.old.places) fuel pid Entry self.old self.new) }
         ensures phase { OnOk result (phase_of P.number pid self.new ≡ Some Phase.Entered) }
+        ensures counted { OnOk result (IsCounted P.number self.old self.new) }
+        ensures met { OnOk result (self.new.met ≡ (self.old.met || S.asks self.old.stops (calling MARKED pid (machine P.number self.old).state))) }
         ensures whole { OnOk result (self.new.whole ≡ true) }
     {
         lawful_states_are_sound::<P::Mount, MARKED>();
         self.whole = false;
         let exec = calls_execve(&self.state, pid);
-        let no_shelf = enter_call(
+        let EntryMade { no_shelf, met } = enter_call(
             self.alloc,
             &self.places,
             &mut self.stops,
@@ -252,6 +268,7 @@ impl<P: Places, S: Stops, const MARKED: u8> Kernel<P, S, MARKED> {
         )?;
         let begun = Begun { no_shelf, exec };
         pause(&mut self.paused, pid, Between::Entered(begun))?;
+        self.met = either(self.met, met);
         self.whole = true;
         Ok(())
     }
@@ -265,6 +282,8 @@ impl<P: Places, S: Stops, const MARKED: u8> Kernel<P, S, MARKED> {
         ensures moves { OnOk result ((fuel : ℕ) → HasMoved P.number (watching S.enters S.exits S.bears S.forgets) (P.mounts self.old.places) fuel pid (Plain (is_exec_at (between_of pid self.old.paused))) self.old self.new) }
         ensures waits { IfOk result (λ done. (done ≡ false) ↔ ((plain_call (P.mounts self.old.places) pid (machine P.number self.old).state).end ≡ Waits)) }
         ensures child { OnOk result (BornRun P.number self.old self.new) }
+        ensures counted { OnOk result (IsCounted P.number self.old self.new) }
+        ensures met { OnOk result (self.new.met ≡ (self.old.met || (plain_reach (P.mounts self.old.places) pid (machine P.number self.old).state nothing_reached).met_proc)) }
         ensures whole { OnOk result (self.new.whole ≡ true) }
     {
         let after = self.call(pid)?;
@@ -277,6 +296,8 @@ impl<P: Places, S: Stops, const MARKED: u8> Kernel<P, S, MARKED> {
         requires phase { phase_of P.number pid self.old ≡ Some Phase.Done }
         ensures moves { OnOk result ((fuel : ℕ) → HasMoved P.number (watching S.enters S.exits S.bears S.forgets) (P.mounts self.old.places) fuel pid Exit self.old self.new) }
         ensures phase { OnOk result (phase_of P.number pid self.new ≡ Some Phase.Running) }
+        ensures counted { OnOk result (IsCounted P.number self.old self.new) }
+        ensures met { OnOk result (self.new.met ≡ self.old.met) }
         ensures whole { OnOk result (self.new.whole ≡ true) }
     {
         let Some(handed) = handed_at(between_of(self.paused.as_slice(), pid)) else {
@@ -307,6 +328,7 @@ impl<P: Places, S: Stops, const MARKED: u8> Kernel<P, S, MARKED> {
         requires few { self.old.turns < 2 ^ 31 }
         requires few_calls { self.old.calls < 2 ^ 31 }
         ensures turns { IfOk result (λ turned. Turns P.number (watching S.enters S.exits S.bears S.forgets) (P.mounts self.old.places) pick fuel self.old self.new turned) }
+        ensures met { IfOk result (λ turned. TurnMeets P.number (watching S.enters S.exits S.bears S.forgets) (P.mounts self.old.places) S.asks pick fuel self.old self.new turned) }
         ensures whole { OnOk result (self.new.whole ≡ true) }
         ensures running { OnOk result (self.new.paused ≡ []) }
         ensures calls { OnOk result (self.new.calls ≤ suc self.old.calls) }
@@ -328,6 +350,8 @@ impl<P: Places, S: Stops, const MARKED: u8> Kernel<P, S, MARKED> {
         requires phase { phase_of P.number pid self.old ≡ Some Phase.Running }
         ensures runs { IfOk result (λ told. HasRunFor P.number (watching S.enters S.exits S.bears S.forgets) (P.mounts self.old.places) fuel pid self.old self.new told) }
         ensures phase { IfOk result (λ told. told.halt ≡ Halt.AtCall → phase_of P.number pid self.new ≡ Some Phase.AtCall) }
+        ensures counted { OnOk result (IsCounted P.number self.old self.new) }
+        ensures met { OnOk result (self.new.met ≡ self.old.met) }
         ensures whole { OnOk result (self.new.whole ≡ true) }
     {
         self.whole = false;
@@ -348,6 +372,8 @@ impl<P: Places, S: Stops, const MARKED: u8> Kernel<P, S, MARKED> {
         ensures called { IfOk result (λ after. HasCalled P.number (watching S.enters S.exits S.bears S.forgets) (P.mounts self.old.places) pid self.old self.new after) }
         ensures phase { IfOk result (λ after. IsLeftAt P.number pid self.new after) }
         ensures child { OnOk result (BornRun P.number self.old self.new) }
+        ensures counted { OnOk result (IsCounted P.number self.old self.new) }
+        ensures met { OnOk result (self.new.met ≡ (self.old.met || (plain_reach (P.mounts self.old.places) pid (machine P.number self.old).state nothing_reached).met_proc)) }
         ensures whole { OnOk result (self.new.whole ≡ true) }
     {
         let Some(begun) = begun_at(between_of(self.paused.as_slice(), pid)) else {
@@ -366,7 +392,12 @@ impl<P: Places, S: Stops, const MARKED: u8> Kernel<P, S, MARKED> {
         pause_after(&mut self.paused, pid, made.after)?;
         self.status = status_after(made.status, self.status);
         self.broken = first_of(self.broken, made.broken);
+        let shape = raised(self.shape_changes, made.altered.shape);
+        let bytes = raised(self.byte_changes, made.altered.bytes);
+        self.shape_changes = shape;
+        self.byte_changes = bytes;
         self.calls += 1;
+        self.met = either(self.met, made.met);
         self.whole = true;
         Ok(made.after)
     }
@@ -378,6 +409,7 @@ impl<P: Places, S: Stops, const MARKED: u8> Kernel<P, S, MARKED> {
         requires few { self.old.calls < 2 ^ 31 }
         requires lives { IsSome (process pid (machine P.number self.old).state) }
         ensures turn { OnOk result (HasTurned P.number (watching S.enters S.exits S.bears S.forgets) (P.mounts self.old.places) fuel pid self.old self.new) }
+        ensures met { OnOk result (HasMetIn P.number (watching S.enters S.exits S.bears S.forgets) (P.mounts self.old.places) S.asks fuel pid self.old self.new.met) }
         ensures whole { OnOk result (self.new.whole ≡ true) }
     {
         let told = self.run(pid, fuel)?;
@@ -395,6 +427,7 @@ impl<P: Places, S: Stops, const MARKED: u8> Kernel<P, S, MARKED> {
         requires alone { self.old.paused ≡ paused_at pid Between.AtCall [] }
         requires phase { phase_of P.number pid self.old ≡ Some Phase.AtCall }
         ensures call { OnOk result (HasMadeCall P.number (watching S.enters S.exits S.bears S.forgets) (P.mounts self.old.places) pid self.old self.new) }
+        ensures met { OnOk result (HasMetAt MARKED (watching S.enters S.exits S.bears S.forgets) (P.mounts self.old.places) S.asks pid (machine P.number self.old) self.old.met self.new.met) }
         ensures whole { OnOk result (self.new.whole ≡ true) }
     {
         self.enter(pid)?;
@@ -455,6 +488,28 @@ impl<P: Places, S: Stops, const MARKED: u8> Kernel<P, S, MARKED> {
         }
     }
 
+    /// How many calls altered the shape of the tree: all that is reached from the root, with its names, kinds, modes, owners, groups and links'
+    /// texts.
+    pub fn shape_changes(&self) -> u64
+        ensures { result ≡ self.now.shape_changes }
+    {
+        self.shape_changes
+    }
+
+    /// How many calls altered the bytes of a file. A write of the bytes that stand there and a cut to the size that a file has alter none.
+    pub fn byte_changes(&self) -> u64
+        ensures { result ≡ self.now.byte_changes }
+    {
+        self.byte_changes
+    }
+
+    /// Whether a walk looked up a name in the process directory: one of the start, of a call that was carried out, or of a peek at a first stop.
+    pub fn met_proc(&self) -> bool
+        ensures { result ≡ self.now.met }
+    {
+        self.met
+    }
+
     /// The host's tree.
     pub fn tree(&self) -> &Tree
         ensures { result.now ≡ (machine P.number self.now).state.tree }
@@ -501,6 +556,21 @@ fn status_after(told: Option<u8>, status: u8) -> u8
         Some(own) => own,
         None => status,
     }
+}
+
+/// A count, one more of what was told.
+fn raised(count: u64, told: bool) -> u64
+    requires { count < 2 ^ 31 }
+    ensures { result ≡ raised count told }
+{
+    if told { count + 1 } else { count }
+}
+
+/// Whether one of two holds.
+fn either(one: bool, other: bool) -> bool
+    ensures { result ≡ (one || other) }
+{
+    one || other
 }
 
 /// The rule that was broken first.

@@ -13,6 +13,10 @@
 //! (`moves`; `HasMoved`, `Moving.antt`), and leaves where the others stand as it was. `plain` answers false exactly where the call waits (`waits`); who is
 //! born in it runs (`child`). It asks for fewer than 2^31 calls before it.
 //!
+//! Of each of these steps it is counted whether it made another shape of the tree, and whether it made other bytes of a file, both exactly: a count
+//! stays where the shape is what it was, and rises by one where it isn't (`counted`; `IsCounted`, `Counting.antt`; `shape_changes`, `byte_changes`).
+//! Only a call makes any. Those of turns are counted, too.
+//!
 //! `Kernel::turn` is made of these steps. It runs the process that is picked, and that turn is the definition's (`turns`; `HasRun`): state, watcher,
 //! status and the rule that was broken first. Over comes exactly where no process lives, Deadlock exactly where one lives and none is ready, and both
 //! change nothing. It asks for fuel, for a kernel in which no memory was wanting and all of whose processes run, as they do at the start, and for fewer

@@ -1,9 +1,12 @@
 -- Walks of the host's own view in code, and what is read where they end.
-use Rattle.std.proofs.Common.{◌≡◌, ℕ, not, Option, Some, None, Result, Ok, Err, refl, sym, ap, subst, ◌∙◌}
+use Rattle.std.proofs.Common.{◌≡◌, ℕ, Bool, not, Option, Some, None, Result, Ok, Err, refl, sym, ap, subst, ◌∙◌}
 use Rattle.std.specs.Option.{option_map}
 use Rattle.kr_seen.specs.pr_base.declared.errno.Errno.{Errno}
 use Rattle.kr_seen.specs.pr_base.declared.errno.Errno.TheVariants.{ENOENT}
 use Rattle.kr_seen.specs.pr_base.declared.path.WalkMode.{WalkMode}
+use Rattle.kr_seen.specs.pr_base.declared.peeks.PeekFault.{PeekFault}
+use Rattle.kr_seen.specs.pr_base.declared.peeks.PeekFault.TheVariants as fault
+use Rattle.kr_seen.specs.pr_base.Peeks.{IsNoted}
 use Rattle.kr_seen.specs.kr_tree.declared.place.Host.{Host}
 use Rattle.kr_seen.specs.kr_tree.declared.place.Place.{Place}
 use Rattle.kr_seen.specs.kr_view.declared.target.Reach.{Reach}
@@ -37,6 +40,12 @@ module _ {T : Type 0} {M : ℕ} (state procs : Held T M) (same : procs ≡ state
 -- so a walk that reached nothing before tells whether it is steady
 pub told-steady : (around : Surroundings) (mode : WalkMode) (trail : PlaceTrail) (old new : Reach) → old ≡ nothing → new ≡ reach_after around mode trail old → not new.met_proc ≡ is_steady around mode trail
 told-steady around mode trail old new first reached = ap (λ (r : Reach). not r.met_proc) (reached ∙ ap (reach_after around mode trail) first)
+
+-- what is noted of a walk is so whatever is read where it ends
+pub any-noted : {A : Type 0} (after new : Bool) (r : Result A PeekFault) → new ≡ after → IsNoted after new r
+any-noted after new (Ok x) e = e
+any-noted after new (Err (fault.Err f)) e = e
+any-noted after new (Err fault.NoMemory) e = tt
 
 -- the object of what a walk found
 pub is-found : (answer : Result PlaceTarget Errno) (target : Target HostMount) (object : Option Host) → object ≡ option_map (λ (p : Place HostMount). p.host) target.found → IsAnswer number answer (Ok target) → IsFound answer (Ok object)

@@ -1,7 +1,7 @@
 //! What a kernel tells a tracer of a state, in the name of a caller.
-ghost use Rattle.std.specs.Prelude.{◌≡◌, ℕ, ◌<◌, ◌^◌, [], take, IfOk, Ok, Err};
+ghost use Rattle.std.specs.Prelude.{◌≡◌, ℕ, ◌<◌, ◌^◌, ◌&&◌, [], not, take, IfOk, Ok};
 ghost use Rattle.std.specs.Option.{option_map};
-ghost use Rattle.kr_seen.specs.pr_base.Peeks.{IsPeeked, NamesAreTexts};
+ghost use Rattle.kr_seen.specs.pr_base.Peeks.{IsNoted, IsPeeked, NamesAreTexts};
 ghost use Rattle.kr_seen.specs.pr_base.declared.path.WalkMode.TheVariants.{LookLink};
 ghost use Rattle.kr_seen.specs.kr_view.Answers.{IsAnswer, IsReached};
 ghost use Rattle.kr_seen.specs.kr_view.Reach.{nothing};
@@ -29,17 +29,20 @@ use kr_seen::guest::{guest_text, text_to};
 use kr_seen::target::Target as Led;
 use std::alloc::Global;
 
-/// The kind of what a host path leads to. It fails as the walk there does.
+/// The kind of what a host path leads to. It fails as the walk there does. In `unmet` it is noted where the walk looks up a name in the process
+/// directory, as in the next two.
 pub fn kind<T: Copy, const M: u8>(
     alloc: Global,
     state: &State<T, M>,
     caller: u32,
     host: &[u8],
+    unmet: &mut bool,
 ) -> Result<PeekKind, PeekFault>
     requires { IsOfView state.now }
-    ensures { IsPeeked ((peeked_of (meaning state.now) caller).kind host.now) result }
+    ensures answer { IsPeeked ((peeked_of (meaning state.now) caller).kind host.now) result }
+    ensures noted { IsNoted (unmet.old && is_steady_path (meaning state.now) caller host.now) unmet.new result }
 {
-    match find(alloc, state, caller, host)? {
+    match find(alloc, state, caller, host, unmet)? {
         Some(object) => kind_of(state, object),
         None => Err(PeekFault::Err(Errno::ENOENT)),
     }
@@ -51,11 +54,13 @@ pub fn link_text<T: Copy, const M: u8>(
     state: &State<T, M>,
     caller: u32,
     host: &[u8],
+    unmet: &mut bool,
 ) -> Result<Bytes, PeekFault>
     requires { IsOfView state.now }
-    ensures { IsPeeked ((peeked_of (meaning state.now) caller).link_text host.now) result }
+    ensures answer { IsPeeked ((peeked_of (meaning state.now) caller).link_text host.now) result }
+    ensures noted { IsNoted (unmet.old && is_steady_path (meaning state.now) caller host.now) unmet.new result }
 {
-    match find(alloc, state, caller, host)? {
+    match find(alloc, state, caller, host, unmet)? {
         Some(object) => text_of(alloc, state, caller, object),
         None => Err(PeekFault::Err(Errno::ENOENT)),
     }
@@ -68,11 +73,13 @@ pub fn head<T: Copy, const M: u8>(
     caller: u32,
     host: &[u8],
     n: u32,
+    unmet: &mut bool,
 ) -> Result<Bytes, PeekFault>
     requires { IsOfView state.now }
-    ensures { IsPeeked ((peeked_of (meaning state.now) caller).head host.now n) result }
+    ensures answer { IsPeeked ((peeked_of (meaning state.now) caller).head host.now n) result }
+    ensures noted { IsNoted (unmet.old && is_steady_path (meaning state.now) caller host.now) unmet.new result }
 {
-    match find(alloc, state, caller, host)? {
+    match find(alloc, state, caller, host, unmet)? {
         Some(object) => head_of(alloc, state, object, n),
         None => Err(PeekFault::Err(Errno::ENOENT)),
     }
@@ -159,15 +166,31 @@ fn find<T: Copy, const M: u8>(
     state: &State<T, M>,
     caller: u32,
     host: &[u8],
+    unmet: &mut bool,
 ) -> Result<Option<Host>, PeekFault>
     requires { IsOfView state.now }
-    ensures { IsFound (answer_along (meaning state.now) caller host.now) result }
+    ensures found { IsFound (answer_along (meaning state.now) caller host.now) result }
+    ensures noted { IsNoted (unmet.old && is_steady_path (meaning state.now) caller host.now) unmet.new result }
 {
     let mut reach = nowhere();
     match walked(alloc, state, caller, host, &mut reach) {
-        Ok(target) => Ok(found_in(target)),
-        Err(fault) => Err(fault_of(fault)),
+        Ok(target) => {
+            *unmet = unmet_behind(*unmet, reach);
+            Ok(found_in(target))
+        }
+        Err(WalkFault::Err(errno)) => {
+            *unmet = unmet_behind(*unmet, reach);
+            Err(PeekFault::Err(errno))
+        }
+        Err(WalkFault::NoMemory) => Err(PeekFault::NoMemory),
     }
+}
+
+/// Whether the process directory is unmet still, behind a walk that reached so much.
+fn unmet_behind(unmet: bool, reach: Reach) -> bool
+    ensures { result ≡ (unmet && not reach.met_proc) }
+{
+    unmet && !reach.met_proc
 }
 
 /// The object that a walk found.
@@ -217,16 +240,6 @@ fn walked<T: Copy, const M: u8>(
         WalkMode::LookLink,
         reach,
     )
-}
-
-/// Why a walk gives no target, as a tracer is told it.
-fn fault_of(fault: WalkFault) -> PeekFault
-    ensures { (answer : _) → IsAnswer {M = HostMount} number answer (Err fault) → IsFound answer (Err result) }
-{
-    match fault {
-        WalkFault::Err(errno) => PeekFault::Err(errno),
-        WalkFault::NoMemory => PeekFault::NoMemory,
-    }
 }
 
 /// The kind of an object.

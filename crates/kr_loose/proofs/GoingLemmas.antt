@@ -1,18 +1,19 @@
 -- A process that went on made a step of the loose run.
-use Rattle.std.proofs.Common.{◌≡◌, ◌≢◌, ◌≤◌, ℕ, suc, List, [], ◌∷◌, Option, Some, None, refl, sym, ap, subst, arith, ◌∙◌}
+use Rattle.std.proofs.Common.{◌≡◌, ◌≢◌, ◌≤◌, ℕ, suc, Bool, List, [], ◌∷◌, Option, Some, None, refl, sym, ap, subst, arith, ◌∙◌}
 use Rattle.std.specs.Prelude.{IsSome, length}
 use Rattle.std.specs.Option.{option_map}
 use Rattle.std.proofs.lemmas.Option.{same_Some}
 use Rattle.kr_core.specs.kr_turns.kr_view.View.{Row}
 use Rattle.kr_core.specs.kr_turns.kr_model.State.{Image, Process, process}
-use Rattle.kr_core.specs.kr_turns.Turn.{Machine}
+use Rattle.kr_core.specs.kr_turns.kr_stops.Stopped.{Stopped}
 use Rattle.kr_core.specs.kr_turns.kr_stops.Watching.{Watching}
 use Rattle.kr_core.specs.Between.{between_of, phase_at}
 use Rattle.kr_core.specs.Kernel.{Kernel, Picks, machine, phase_of}
 use Rattle.kr_core.specs.Moving.{Entry, Exit, Instructions, IsMoved, Moved, Plain, StepKind}
-use Rattle.kr_core.specs.Stepping.{HasMoved, calls_after}
-use Rattle.kr_core.specs.declared.paused.Phase.{Phase}
-use Rattle.kr_loose.specs.Going.{HasGone, HasStepped}
+use Rattle.kr_core.specs.Stepping.{calls_after}
+use Rattle.kr_loose.specs.Behind.{ComesBehind, kept_of}
+use Rattle.kr_loose.specs.Going.{HasGone, HasStepped, step_made}
+use Rattle.kr_loose.specs.declared.judge.Judge.{Judge}
 
 -- one that is picked lives
 pub picked-lives : {P S T : Type 0} {M : ℕ} (number : T → ℕ) (pick pid : ℕ) (k : Kernel P S T M) → Picks number pick pid k → IsSome (process pid (machine number k).state)
@@ -40,12 +41,8 @@ none-of (x ∷ xs) e = absurd (omega arith)
 pub some-of : {A : Type 0} (xs : List A) (n : ℕ) → n ≡ length xs → (n ≡ 0 → ⊥) → xs ≢ []
 some-of xs n told some = λ none. some (told ∙ ap length none)
 
--- a step of a kernel, whichever it is
-pub gone : {P S T : Type 0} {M : ℕ} (number : T → ℕ) (w : Watching S) (table : List Row) (fuel pid : ℕ) (kind : StepKind) (old new : Kernel P S T M) → HasMoved number w table fuel pid kind old new → HasGone number w table fuel pid old new
-gone number w table fuel pid kind old new moves = record { kind = kind; moves = moves }
-
-module _ {P S T : Type 0} {M : ℕ} (number : T → ℕ) (w : Watching S) (table : List Row) (pick fuel pid : ℕ) (old new : Kernel P S T M) where
-  pub has-stepped : Picks number pick pid old → HasGone number w table fuel pid old new → HasStepped number w table pick fuel old new
+module _ {P S T : Type 0} {M : ℕ} (number : T → ℕ) (w : Watching S) (asks : S → Stopped → Bool) (table : List Row) (pick fuel pid : ℕ) (old new : Kernel P S T M) (before after : Judge) where
+  pub has-stepped : Picks number pick pid old → HasGone number w asks table fuel pid old new before after → HasStepped number w asks table pick fuel old new before after
   has-stepped picks went =
       let has = went.moves in
       let same : has.own ≡ picks.own = same_Some has.own picks.own (sym has.lives ∙ picks.lives) in
@@ -57,6 +54,7 @@ module _ {P S T : Type 0} {M : ℕ} (number : T → ℕ) (w : Watching S) (table
         picked = picks.picked;
         kind = went.kind;
         step = λ steps. record { made = made; moves = moves; leaves = refl };
+        behind = subst (λ n. ComesBehind asks M table (step_made number pick n went.kind old new) (kept_of old before) (kept_of new after)) (sym picks.same) (went.behind pick);
         calls = has.calls;
         places = has.places;
         turns = has.turns;

@@ -12,7 +12,10 @@
 //! Where the relations of the watcher are graphs of functions a step is a function (law `steps_are_functions`).
 //!
 //! A loose run stands for a run by turns (`Slots.antt`). It is quiet where what was told at the first stop of a call holds still as the call is
-//! carried out (`Quiet.antt`).
+//! carried out (`Quiet.antt`). `quiet` tells whether the steps so far are, exactly: no code keeps these steps, so the clause speaks of any steps behind
+//! which the value stands (`IsBehind`, `Behind.antt`). It stands behind none at first (`behind` of `new`), behind one more after each step (`behind` of
+//! `HasStepped`), and behind the same where bytes are forgotten (`behind` of `clear_bytes`). For each call that is begun it keeps how often the shape of
+//! the tree and the bytes of files were altered before (`Judging.antt`), and the call is judged as it is carried out.
 //!
 //! Beside that there are laws on which a match of a loose run and the run that it stands for is to rest. Where no byte is marked, instructions that
 //! end with a call part at it (`Parting.antt`, `runs_part_at_calls`); and a kernel that keeps no marks never marks one, in turns and in steps, with a
@@ -25,6 +28,7 @@
 #![tactic(auto)]
 
 pub mod below;
+mod judge;
 pub mod laws;
 mod loose;
 pub mod marks;

@@ -16,7 +16,7 @@ pub(crate) fn excludes(flags: u32) -> bool
 }
 
 /// O_TRUNC.
-pub(crate) fn truncates(flags: u32) -> bool
+pub fn truncates(flags: u32) -> bool
     ensures { result ≡ truncates flags }
 {
     flags & OpenFlags::TRUNC.bits() == OpenFlags::TRUNC.bits()

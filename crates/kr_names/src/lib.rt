@@ -15,7 +15,7 @@
 mod above;
 mod adding;
 mod creating;
-mod flags;
+pub mod flags;
 mod found;
 pub mod linking;
 pub mod making;

@@ -239,7 +239,7 @@ fn is_above_old<T: Copy, const M: u8>(
 }
 
 /// Whether both names are of one object.
-fn is_one(found: Host, over: Option<Host>) -> bool
+pub fn is_one(found: Host, over: Option<Host>) -> bool
     ensures { result ≡ is_one found over }
 {
     match over {

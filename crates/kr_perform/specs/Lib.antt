@@ -5,6 +5,7 @@ pub use Rattle.law_allowed.specs.kr_calls as kr_calls
 pub use Rattle.law_allowed.specs.kr_model as kr_model
 pub use Rattle.law_allowed.specs.law_lawful as law_lawful
 pub use Rattle.law_allowed.specs as law_allowed
+pub use Rattle.law_steady.specs as law_steady
 pub use Rattle.kr_rows.specs.kr_ops as kr_ops
 pub use Rattle.kr_transfer.specs.kr_seen as kr_seen
 pub use Rattle.kr_rows.specs as kr_rows
@@ -14,3 +15,4 @@ pub mod Naming
 pub mod Resolving
 pub mod Walked
 pub mod Calling
+pub mod Altering

@@ -17,6 +17,11 @@
 //!
 //! Only tested, or not shown: `rows`.
 //!
+//! # `altering`
+//!
+//! What a call alters is told before it is carried out, of what its paths lead to and of what is open: the modes, owners, names and sizes that it
+//! would set are compared with those that are there (`IsAhead`). Only a write's bytes are compared as they are written.
+//!
 //! # `resolving`
 //!
 //! What calls rest on of the targets of their paths.
@@ -52,13 +57,18 @@
 //! It asks for a request that decoding can give, whose paths are texts, for fewer than 2^31 calls before it, for a living caller, and for mounts
 //! whose sources have good names.
 //!
+//! `carry_out_along` does the same of paths that were walked, and tells whether the call altered the shape of the tree, and the bytes of a file
+//! (`altered`; `IsAltered`), both exactly: a write of the bytes that stand there and a cut to the size that a file has alter none.
+//!
 //! Only tested, or not shown: `rows`: guests that make calls one after the other over a small listing, on both machines, with what each answers;
 //! every call but execve(2) is among them.
 #![tactic(auto)]
 
+pub mod altering;
 pub mod asking;
 pub mod below;
 mod call;
+mod changes;
 pub mod descriptors;
 pub mod laws;
 pub mod naming;
@@ -67,5 +77,6 @@ pub mod processes;
 pub mod resolving;
 pub mod walked;
 
-pub use call::{carry_out, carry_out_along};
+pub use altering::Altered;
+pub use call::{Carried, carry_out, carry_out_along};
 pub use performing::perform;

@@ -25,3 +25,4 @@ pub mod StepLemmas
 pub mod PerformLemmas
 pub mod UsingLemmas
 pub mod SteadyLemmas
+pub mod FrontLemmas

@@ -127,7 +127,7 @@ module _ (around : Surroundings) where
     node_sight c false may h = tt
 
   -- a look that looks up no name in the process directory
-  abbrev IsApart : LookedAt (Place ℕ) → Type 0
+  abbrev pub IsApart : LookedAt (Place ℕ) → Type 0
   IsApart l = meets_processes around.space l.place l.component ≡ false
 
   look_sight : (p : Place ℕ) (c : Component) → IsInode p → meets_processes around.space p c ≡ false → IsInodeSight (look_up around p c)
@@ -138,7 +138,7 @@ module _ (around : Surroundings) where
 
   -- ---- a walk
 
-  landings_met : (landings : List (Landing (Place ℕ) (Place ℕ))) (r : Reach) → (landings_reach around.space landings r).met_proc ≡ r.met_proc
+  pub landings_met : (landings : List (Landing (Place ℕ) (Place ℕ))) (r : Reach) → (landings_reach around.space landings r).met_proc ≡ r.met_proc
   landings_met [] r = refl
   landings_met (l ∷ landings) r = landings_met landings (reached_landing around.space l r)
 
@@ -150,7 +150,7 @@ module _ (around : Surroundings) where
         let own = or_parts r.met_proc (meets_processes around.space l.place l.component) rest.0 in
         (own.0, All-cons IsApart l looks own.1 rest.1)
 
-    apart : (trail : PlaceTrail) → is_steady around mode trail ≡ true → All IsApart trail.looks
+    pub apart : (trail : PlaceTrail) → is_steady around mode trail ≡ true → All IsApart trail.looks
     apart trail h =
         (looks_apart trail.looks nothing (sym (landings_met trail.landings (looks_reach around mode trail.looks nothing)) ∙ not-true (reach_after around mode trail nothing).met_proc h)).1
 

@@ -2,3 +2,5 @@
 pub use Rattle.kr_perform.specs.Calling.{CanBeMade, CanCall, IsCalled, MayCall, Runs}
 pub use Rattle.kr_perform.specs.Operating.{IsNoExec}
 pub use Rattle.kr_perform.specs.Lawful.{LastsLawful}
+pub use Rattle.kr_perform.specs.Altering.{IsAltered, nothing_altered}
+pub use Rattle.kr_perform.specs.declared.altering.Altered.{Altered}

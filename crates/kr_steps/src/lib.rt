@@ -47,6 +47,6 @@ pub use answering::{answer, resume, stay};
 pub use calling::{Called, call};
 pub use instructions::compute;
 pub use killing::kill;
-pub use kr_perform::carry_out_along;
+pub use kr_perform::{Altered, Carried, carry_out_along};
 pub use picking::{picked, ready};
 pub use requesting::request;

@@ -1,5 +1,5 @@
 -- A process that stands at a stop of its call, in the state of its kernel, and what may be done to it there.
-use Rattle.std.specs.Prelude.{◌≡◌, ℕ, false, None, [], IsSome}
+use Rattle.std.specs.Prelude.{◌≡◌, ℕ, Bool, true, false, None, [], IsSome}
 use Rattle.std.specs.Option.{option_map_or}
 use Rattle.law_lawful.specs.rv_mem.Memory.{Memory}
 use Rattle.law_lawful.specs.rv_mem.declared.regs.Regs.{Regs}
@@ -47,3 +47,12 @@ pub record IsEdited (t u : Stopped) : Type 0 where
   pub becomes : u ≡ edited (image_at u).regs (image_at u).memory t
   pub behind : (image_at u).regs.pc ≡ (image_at t).regs.pc
   pub layout : image_layout (image_at u) ≡ image_layout (image_at t)
+
+-- whether the process directory is unmet behind what may have met it
+abbrev pub unmet_after : (met before : Bool) → Bool
+unmet_after true before = false
+unmet_after false before = before
+
+-- what was lent for a stop, of which it is told beside it whether the process directory is unmet
+abbrev pub lent : {Tracee Rest : Type 0} → (Tracee → Rest × Bool) → Tracee → Rest
+lent around t = (around t).0

@@ -1,7 +1,7 @@
 //! What happens at the stops of a call.
-ghost use Rattle.std.specs.Prelude.{◌≡◌, ℕ, OnOk};
+ghost use Rattle.std.specs.Prelude.{◌≡◌, ℕ, Bool, false, OnOk};
 ghost use Rattle.kr_stops.specs.Remembering.{AgreesAt, FreeAgrees, FreesCaller, KeepsAllFree, KeepsOthersFree, LastsWithShape, StillAgrees};
-ghost use Rattle.kr_stops.specs.Stopped.{Stopped, IsEdited};
+ghost use Rattle.kr_stops.specs.Stopped.{Stopped, IsEdited, unmet_after};
 
 use crate::tracee::Tracee;
 use law_lawful::below::NoMemory;
@@ -24,6 +24,9 @@ pub trait Stops {
     /// What it keeps as a process ends.
     ghost forgets: { Self → ℕ → Self → Type 0 };
 
+    /// Whether a peek at the first stop looks up a name in the process directory, by what it keeps and the stopped process before.
+    ghost asks: { Self → Stopped → Bool };
+
     /// What it keeps agrees with a tree, as a user walks it: whatever it remembers of walks is so there.
     ghost agrees: { Self → Tree → User → Type 0 };
 
@@ -31,12 +34,14 @@ pub trait Stops {
     ghost is_free: { Self → ℕ → Type 0 };
 
     /// A call is about to be carried out. At most the registers and the bytes of the memory of its process are changed. Where the registers that
-    /// are left hold a call that can alter the shape of the tree, what is kept is free for the process till its next stop.
+    /// are left hold a call that can alter the shape of the tree, what is kept is free for the process till its next stop. The second stop makes
+    /// no peek that looks up a name in the process directory.
     fn entry<T: Tracee>(&mut self, t: &mut T) -> Result<(), NoMemory>
         requires agrees { AgreesAt agrees self.old (T.stopped t.old) }
         ensures enters { OnOk result (enters self.old (T.stopped t.old) self.new (T.stopped t.new)) }
         ensures edits { IsEdited (T.stopped t.old) (T.stopped t.new) }
-        ensures rest { T.around t.new ≡ T.around t.old }
+        ensures rest { (T.around t.new).0 ≡ (T.around t.old).0 }
+        ensures asks { OnOk result ((T.around t.new).1 ≡ unmet_after (asks self.old (T.stopped t.old)) (T.around t.old).1) }
         ensures agrees { OnOk result (AgreesAt agrees self.new (T.stopped t.new)) }
         ensures frees { OnOk result (FreesCaller is_free (T.stopped t.new) self.new) }
         ensures others { OnOk result (KeepsOthersFree is_free (T.stopped t.old).pid self.old self.new) };
@@ -81,6 +86,8 @@ impl Stops for Unwatched {
     ghost bears = { λ x parent child y. y ≡ x };
 
     ghost forgets = { λ x pid y. y ≡ x };
+
+    ghost asks = { λ x t. false };
 
     ghost agrees = { λ x t user. Unit {0} };
 

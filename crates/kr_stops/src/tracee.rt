@@ -1,5 +1,5 @@
 //! A process at a stop, as a watcher sees it.
-ghost use Rattle.std.specs.Prelude.{◌≡◌, ◌≤◌, ◌<◌, ◌↔◌, ℕ, IsErrOf, IsOk, IsTrue, length, OnOk, OnErr, false};
+ghost use Rattle.std.specs.Prelude.{◌≡◌, ◌≤◌, ◌<◌, ◌↔◌, ℕ, Bool, IsErrOf, IsOk, IsTrue, length, OnOk, OnErr, false};
 ghost use Rattle.law_lawful.specs.rv_mem.Pages.{allows_all, bytes_from};
 ghost use Rattle.law_lawful.specs.kr_model.Peeks.{peeked_of};
 ghost use Rattle.law_lawful.specs.kr_tree.Lawful.{IsSound};
@@ -13,10 +13,10 @@ pub trait Tracee: Peeks {
     /// The kernel's whole state, with the process.
     ghost stopped: { Self → Stopped };
 
-    /// What else the calls leave as it was.
+    /// What else the calls leave as it was, a peek but for whether the process directory is unmet.
     ghost Around: { Type 0 };
 
-    ghost around: { Self → Around };
+    ghost around: { Self → Around × Bool };
 
     /// The process, which lives, in a state whose tree is sound.
     fn pid(&self) -> u32
@@ -74,6 +74,8 @@ pub trait Tracee: Peeks {
     /// A peek is asked of the state, in the name of the process.
     ghost peeks_at_state: { (t : Self) → Self.peeked t ≡ peeked_of (stopped t).state (stopped t).pid };
 
-    /// What peeks leave is all of it.
-    ghost kept_is_all: { (t u : Self) → Self.kept t ≡ Self.kept u → (stopped t ≡ stopped u) × (around t ≡ around u) };
+    /// What peeks leave is all of it, and what they note is told with it.
+    ghost kept_is_all: { (t u : Self) → Self.kept t ≡ Self.kept u → (stopped t ≡ stopped u) × ((around t).0 ≡ (around u).0) };
+
+    ghost unmet_is_told: { (t : Self) → (around t).1 ≡ Self.unmet t };
 }

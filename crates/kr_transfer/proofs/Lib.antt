@@ -7,6 +7,7 @@ pub mod MovingLemmas
 pub mod ViewLemmas
 pub mod ReadingLemmas
 pub mod WritingLemmas
+pub mod WrittenLemmas
 pub mod ListLemmas
 pub mod ListingLemmas
 pub mod DescriptorLemmas

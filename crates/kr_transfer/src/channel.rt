@@ -23,11 +23,7 @@ pub struct Channel {
 }
 
 /// What is open under a descriptor of a process, `None` exactly where it isn't open.
-pub(crate) fn channel_of<T: Copy, const M: u8>(
-    state: &State<T, M>,
-    pid: u32,
-    fd: i32,
-) -> Option<Channel>
+pub fn channel_of<T: Copy, const M: u8>(state: &State<T, M>, pid: u32, fd: i32) -> Option<Channel>
     requires { IsSound state.now }
     ensures { result ≡ channel_of (known image_layout pid (meaning state.now)) fd }
 {
@@ -80,7 +76,7 @@ pub(crate) fn is_directory(what: What) -> bool
 }
 
 /// The inode of what is open, 0 where it has none.
-pub(crate) fn inode_of(channel: Channel) -> Ino
+pub fn inode_of(channel: Channel) -> Ino
     ensures { result ≡ inode_under channel.host }
 {
     match channel.host {

@@ -1,5 +1,5 @@
-//! Calls that write to what is open.
-ghost use Rattle.std.specs.Prelude.{◌≡◌, ◌≢◌, ◌+◌, ◌<◌, ◌≤◌, ◌^◌, ℕ, not, if◌then◌else◌, Some, None, length, true};
+//! Calls that write to what is open. What each answers is told with whether the bytes of a file are others behind it.
+ghost use Rattle.std.specs.Prelude.{◌≡◌, ◌≢◌, ◌+◌, ◌<◌, ◌≤◌, ◌^◌, ℕ, not, if◌then◌else◌, Some, None, length, true, take, drop, bytes_eq};
 ghost use Rattle.kr_seen.specs.pr_base.declared.errno.Errno.TheVariants.{EBADF as NotOpen, EISDIR as IsDirectory};
 ghost use Rattle.kr_seen.specs.rv_mem.declared.rights.Use.TheVariants.{Read};
 ghost use Rattle.kr_seen.specs.kr_files.declared.opened.What.TheVariants.{File as RegularFile, PipeWrite as WriteEnd, Out as ConsoleOutput, Err as ConsoleError};
@@ -12,16 +12,17 @@ ghost use Rattle.kr_seen.specs.kr_model.Reply.{refuse};
 ghost use Rattle.kr_seen.specs.kr_model.declared.outcome.Outcome.TheVariants.{NoMemory as WantOfMemory};
 ghost use Rattle.kr_seen.specs.kr_ops.Meaning.{meaning};
 ghost use Rattle.kr_seen.specs.kr_ops.Sound.{IsOfViewFor, IsServed};
-ghost use Rattle.kr_seen.specs.PerformedRows.{memory_of, Performs};
+ghost use Rattle.kr_seen.specs.PerformedRows.{memory_of};
 ghost use Rattle.kr_transfer.specs.Channels.{inode_under, IsOpenHere, PerformsOn};
 ghost use Rattle.kr_transfer.specs.Moving.{all_allowed, bytes_at, told, IsCountOf};
+ghost use Rattle.kr_transfer.specs.Writing.{WritesRow, WritesRowOn};
 
 use crate::channel::{Channel, channel_of, inode_of, is_directory};
 use crate::lists::{answer_of, read_list};
-use crate::moving::{MOVE_LIMIT, may_use_all, read_all};
+use crate::moving::{MOVE_LIMIT, may_use_all, part, read_all};
 use crate::pieces::Piece;
 use kr_seen::below::{
-    Errno, FILE_LIMIT, NoMemory, Outcome, PIPE_BYTES, State, TreeRefusal, Use, What,
+    Errno, FILE_LIMIT, Ino, NoMemory, Outcome, PIPE_BYTES, State, TreeRefusal, Use, What,
     lawful_states_are_sound,
 };
 use kr_seen::{number, refused};
@@ -31,6 +32,14 @@ const SIGPIPE: u32 = 13;
 
 /// How many bytes a pipe holds at most.
 const PIPE_LIMIT: u32 = PIPE_BYTES as u32;
+
+/// What a write came to.
+#[derive(Clone, Copy)]
+pub struct Written {
+    pub outcome: Outcome,
+    /// Whether the bytes of a file are others behind it: those that were written aren't those that stood there.
+    pub differs: bool,
+}
 
 /// write(2): EBADF of a descriptor that isn't open for writing, EISDIR. At most 2,147,479,552 bytes are asked, and a length
 /// of 0 answers 0. EFAULT of all bytes asked. A pipe without readers kills the caller, a full one waits, and another takes as
@@ -43,15 +52,18 @@ pub fn write<T: Copy, const M: u8>(
     fd: i32,
     buf: u64,
     n: u64,
-) -> Outcome
+) -> Written
     requires { IsOfViewFor pid state.old }
-    ensures performs { Performs pid (λ k. write_row k fd buf n) state.old state.new result }
-    ensures served { result ≢ WantOfMemory → IsServed state.new }
+    ensures writes { WritesRow pid (λ k. write_row k fd buf n) state.old state.new result }
+    ensures served { result.outcome ≢ WantOfMemory → IsServed state.new }
 {
     lawful_states_are_sound::<T, M>();
     match channel_of(state, pid, fd) {
         Some(channel) => write_open(state, pid, channel, buf, n),
-        None => refused(Errno::EBADF),
+        None => Written {
+            outcome: refused(Errno::EBADF),
+            differs: false,
+        },
     }
 }
 
@@ -75,14 +87,17 @@ fn write_open<T: Copy, const M: u8>(
     channel: Channel,
     buf: u64,
     n: u64,
-) -> Outcome
+) -> Written
     requires caller { IsOfViewFor pid state.old }
     requires here { IsOpenHere pid channel state.old }
-    ensures performs { PerformsOn pid channel (λ k o. if not o.write then refuse NotOpen else if is_dir o.what then refuse IsDirectory else write_pieces k channel.fd o (one_piece buf n)) state.old state.new result }
-    ensures served { result ≢ WantOfMemory → IsServed state.new }
+    ensures writes { WritesRowOn pid channel (λ k o. if not o.write then refuse NotOpen else if is_dir o.what then refuse IsDirectory else write_pieces k channel.fd o (one_piece buf n)) state.old state.new result }
+    ensures served { result.outcome ≢ WantOfMemory → IsServed state.new }
 {
     if let Some(errno) = why_unwritable(channel) {
-        return refused(errno);
+        return Written {
+            outcome: refused(errno),
+            differs: false,
+        };
     }
     let count = n.min(MOVE_LIMIT);
     let pieces = [Piece { at: buf, count }];
@@ -96,28 +111,72 @@ fn write_pieces<T: Copy, const M: u8>(
     channel: Channel,
     pieces: &[Piece],
     count: u64,
-) -> Outcome
+) -> Written
     requires caller { IsOfViewFor pid state.old }
     requires here { IsOpenHere pid channel state.old }
     requires count { IsCountOf pieces.now count }
-    ensures performs { PerformsOn pid channel (λ k o. write_pieces k channel.fd o (told pieces.now)) state.old state.new result }
-    ensures served { result ≢ WantOfMemory → IsServed state.new }
+    ensures writes { WritesRowOn pid channel (λ k o. write_pieces k channel.fd o (told pieces.now)) state.old state.new result }
+    ensures served { result.outcome ≢ WantOfMemory → IsServed state.new }
 {
     lawful_states_are_sound::<T, M>();
     if count == 0 {
-        return number(0);
+        return Written {
+            outcome: number(0),
+            differs: false,
+        };
     }
     if !may_use_all(state, pid, pieces, count, Use::Read) {
-        return refused(Errno::EFAULT);
+        return Written {
+            outcome: refused(Errno::EFAULT),
+            differs: false,
+        };
     }
+    write_readable(state, pid, channel, pieces, count)
+}
+
+/// Writes pieces all of which may be read, by what is open. Only what is written to a file changes the bytes of one.
+fn write_readable<T: Copy, const M: u8>(
+    state: &mut State<T, M>,
+    pid: u32,
+    channel: Channel,
+    pieces: &[Piece],
+    count: u64,
+) -> Written
+    requires caller { IsOfViewFor pid state.old }
+    requires here { IsOpenHere pid channel state.old }
+    requires some { 0 < count }
+    requires count { IsCountOf pieces.now count }
+    requires allowed { all_allowed (memory_of pid (meaning state.old)).pages Read (told pieces.now) ≡ true }
+    ensures writes { WritesRowOn pid channel (λ k o. write_what k channel.fd o (told pieces.now) o.what) state.old state.new result }
+    ensures served { result.outcome ≢ WantOfMemory → IsServed state.new }
+{
+    lawful_states_are_sound::<T, M>();
     match channel.what {
         What::File => write_file(state, pid, channel, pieces, count),
-        What::Out => write_out(state, pid, channel, pieces, count),
-        What::Err => write_err(state, pid, channel, pieces, count),
-        What::PipeWrite(pipe) => write_pipe(state, pid, channel, pieces, count, pipe),
-        What::Dir => refused(Errno::EISDIR),
-        What::In => refused(Errno::EBADF),
-        What::PipeRead(_) => refused(Errno::EBADF),
+        What::Out => Written {
+            outcome: write_out(state, pid, channel, pieces, count),
+            differs: false,
+        },
+        What::Err => Written {
+            outcome: write_err(state, pid, channel, pieces, count),
+            differs: false,
+        },
+        What::PipeWrite(pipe) => Written {
+            outcome: write_pipe(state, pid, channel, pieces, count, pipe),
+            differs: false,
+        },
+        What::Dir => Written {
+            outcome: refused(Errno::EISDIR),
+            differs: false,
+        },
+        What::In => Written {
+            outcome: refused(Errno::EBADF),
+            differs: false,
+        },
+        What::PipeRead(_) => Written {
+            outcome: refused(Errno::EBADF),
+            differs: false,
+        },
     }
 }
 
@@ -142,24 +201,32 @@ fn write_file<T: Copy, const M: u8>(
     channel: Channel,
     pieces: &[Piece],
     count: u64,
-) -> Outcome
+) -> Written
     requires caller { IsOfViewFor pid state.old }
     requires here { IsOpenHere pid channel state.old }
     requires file { channel.what ≡ RegularFile }
     requires some { 0 < count }
     requires count { IsCountOf pieces.now count }
     requires allowed { all_allowed (memory_of pid (meaning state.old)).pages Read (told pieces.now) ≡ true }
-    ensures performs { PerformsOn pid channel (λ k o. write_file k channel.fd o (told pieces.now) (write_place k o)) state.old state.new result }
-    ensures served { result ≢ WantOfMemory → IsServed state.new }
+    ensures writes { WritesRowOn pid channel (λ k o. write_file k channel.fd o (told pieces.now) (write_place k o)) state.old state.new result }
+    ensures served { result.outcome ≢ WantOfMemory → IsServed state.new }
 {
     lawful_states_are_sound::<T, M>();
     let at = place_of(state, channel);
     if FILE_LIMIT as u64 <= at {
-        return refused(Errno::EFBIG);
+        return Written {
+            outcome: refused(Errno::EFBIG),
+            differs: false,
+        };
     }
     let bytes = match read_all(state, pid, pieces, FILE_LIMIT as u64 - at) {
         Ok(bytes) => bytes,
-        Err(NoMemory) => return Outcome::NoMemory,
+        Err(NoMemory) => {
+            return Written {
+                outcome: Outcome::NoMemory,
+                differs: false,
+            };
+        }
     };
     put_in_file(state, pid, channel, at, bytes.as_slice())
 }
@@ -176,24 +243,46 @@ fn put_in_file<T: Copy, const M: u8>(
     channel: Channel,
     at: u64,
     bytes: &[u8],
-) -> Outcome
+) -> Written
     requires caller { IsOfViewFor pid state.old }
     requires here { IsOpenHere pid channel state.old }
     requires file { channel.what ≡ RegularFile }
     requires some { 0 < length bytes.now }
     requires limited { at + length bytes.now ≤ file_limit }
-    ensures performs { PerformsOn pid channel (λ k o. put_in_file k channel.fd o at bytes.now) state.old state.new result }
-    ensures served { result ≢ WantOfMemory → IsServed state.new }
+    ensures writes { WritesRowOn pid channel (λ k o. put_in_file k channel.fd o at bytes.now) state.old state.new result }
+    ensures served { result.outcome ≢ WantOfMemory → IsServed state.new }
 {
     are_bytes(bytes);
-    match state.write_file(inode_of(channel), at, bytes) {
+    let file = inode_of(channel);
+    let differs = differ_from(state, file, at, bytes);
+    match state.write_file(file, at, bytes) {
         Ok(()) => {
             state.seek(pid, channel.fd, at + bytes.len() as u64);
-            number(bytes.len() as u32)
+            Written {
+                outcome: number(bytes.len() as u32),
+                differs,
+            }
         }
-        Err(TreeRefusal::Full) => refused(Errno::ENOSPC),
+        Err(TreeRefusal::Full) => Written {
+            outcome: refused(Errno::ENOSPC),
+            differs: false,
+        },
         Err(TreeRefusal::TooBig) => unreachable!(),
-        Err(TreeRefusal::NoMemory) => Outcome::NoMemory,
+        Err(TreeRefusal::NoMemory) => Written {
+            outcome: Outcome::NoMemory,
+            differs: false,
+        },
+    }
+}
+
+/// Whether bytes that are to be written into a file aren't those that stand there. They are compared where they lie, up to the first that differs.
+fn differ_from<T: Copy, const M: u8>(state: &State<T, M>, file: Ino, at: u64, bytes: &[u8]) -> bool
+    requires { body_is is_file state.now.tree file ≡ true }
+    ensures { result ≡ not (bytes_eq (take (length bytes.now) (drop at (bytes_at state.now.tree file))) bytes.now) }
+{
+    match state.tree.file(file) {
+        Some(held) => part(held, at, bytes.len() as u64) != bytes,
+        None => unreachable!(),
     }
 }
 
@@ -295,15 +384,18 @@ pub fn writev<T: Copy, const M: u8>(
     fd: i32,
     list: u64,
     count: u64,
-) -> Outcome
+) -> Written
     requires { IsOfViewFor pid state.old }
-    ensures performs { Performs pid (λ k. writev_row k fd list count) state.old state.new result }
-    ensures served { result ≢ WantOfMemory → IsServed state.new }
+    ensures writes { WritesRow pid (λ k. writev_row k fd list count) state.old state.new result }
+    ensures served { result.outcome ≢ WantOfMemory → IsServed state.new }
 {
     lawful_states_are_sound::<T, M>();
     match channel_of(state, pid, fd) {
         Some(channel) => writev_open(state, pid, channel, list, count),
-        None => refused(Errno::EBADF),
+        None => Written {
+            outcome: refused(Errno::EBADF),
+            differs: false,
+        },
     }
 }
 
@@ -314,18 +406,24 @@ fn writev_open<T: Copy, const M: u8>(
     channel: Channel,
     list: u64,
     count: u64,
-) -> Outcome
+) -> Written
     requires caller { IsOfViewFor pid state.old }
     requires here { IsOpenHere pid channel state.old }
-    ensures performs { PerformsOn pid channel (λ k o. if not o.write then refuse NotOpen else if is_dir o.what then refuse IsDirectory else with_list list count (write_pieces k channel.fd o)) state.old state.new result }
-    ensures served { result ≢ WantOfMemory → IsServed state.new }
+    ensures writes { WritesRowOn pid channel (λ k o. if not o.write then refuse NotOpen else if is_dir o.what then refuse IsDirectory else with_list list count (write_pieces k channel.fd o)) state.old state.new result }
+    ensures served { result.outcome ≢ WantOfMemory → IsServed state.new }
 {
     lawful_states_are_sound::<T, M>();
     if let Some(errno) = why_unwritable(channel) {
-        return refused(errno);
+        return Written {
+            outcome: refused(errno),
+            differs: false,
+        };
     }
     match read_list(state, pid, list, count) {
         Ok(list) => write_pieces(state, pid, channel, list.pieces.as_slice(), list.count),
-        Err(fault) => answer_of(fault),
+        Err(fault) => Written {
+            outcome: answer_of(fault),
+            differs: false,
+        },
     }
 }

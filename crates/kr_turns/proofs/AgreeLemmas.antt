@@ -7,18 +7,18 @@ use Rattle.kr_execve.specs.kr_calls.Decoding.{decoding}
 use Rattle.kr_execve.specs.kr_calls.declared.request.Request.{Request}
 use Rattle.kr_execve.specs.kr_calls.declared.request.Request.TheVariants as call
 use Rattle.kr_execve.specs.kr_view.View.{Row}
-use Rattle.law_steady.specs.kr_inode.declared.user.User.{User}
+use Rattle.kr_hostview.specs.kr_inode.declared.user.User.{User}
 use Rattle.kr_execve.specs.kr_tree.Lawful.{IsKept, IsSound}
 use Rattle.kr_execve.specs.kr_tree.Tree.{Tree}
-use Rattle.law_steady.specs.kr_model.Applied.{Mounts, all_applied, applied, images}
-use Rattle.law_steady.specs.kr_model.Change.{Change, End, OfFound}
-use Rattle.law_steady.specs.kr_model.Judged.{HasShape, leaves_shape}
-use Rattle.law_steady.specs.kr_model.Known.{known}
-use Rattle.law_steady.specs.kr_model.State as model
-use Rattle.law_steady.specs.kr_model.State.{Image, Process, image_layout, process}
-use Rattle.law_steady.specs.kr_model.Walks.{targets_of}
-use Rattle.law_steady.specs.kr_model.declared.outcome.Outcome.{Outcome}
-use Rattle.law_steady.specs.kr_model.declared.outcome.Outcome.TheVariants.{Answer, Wait, Ended, NoMemory}
+use Rattle.kr_steps.specs.kr_model.Applied.{Mounts, all_applied, applied, images}
+use Rattle.kr_steps.specs.kr_model.Change.{Change, End, OfFound}
+use Rattle.kr_steps.specs.kr_model.Judged.{HasShape, leaves_shape}
+use Rattle.kr_steps.specs.kr_model.Known.{known}
+use Rattle.kr_steps.specs.kr_model.State as model
+use Rattle.kr_steps.specs.kr_model.State.{Image, Process, image_layout, process}
+use Rattle.kr_steps.specs.kr_model.Walks.{targets_of}
+use Rattle.kr_steps.specs.kr_model.declared.outcome.Outcome.{Outcome}
+use Rattle.kr_steps.specs.kr_model.declared.outcome.Outcome.TheVariants.{Answer, Wait, Ended, NoMemory}
 use Rattle.kr_hostview.specs.kr_ops.Making.{Makes}
 use Rattle.kr_hostview.specs.kr_ops.Meaning.{meaning}
 use Rattle.kr_hostview.specs.kr_ops.declared.state.State.{State}
@@ -29,10 +29,10 @@ use Rattle.kr_steps.specs.Calls.{IsNoExec}
 use Rattle.kr_steps.specs.Computing.{computed}
 use Rattle.kr_steps.specs.Settling.{settled}
 use Rattle.kr_steps.specs.law_allowed.Told.{mounts_walked}
-use Rattle.law_steady.specs.Calls.{may_alter_shape}
-use Rattle.law_steady.proofs.CallLemmas.{calls_leave_shape, programs_leave_both}
-use Rattle.law_steady.proofs.ExactLemmas.{same_shape}
-use Rattle.law_steady.proofs.LeavingLemmas.{shape_stays_along}
+use Rattle.kr_steps.specs.law_steady.Calls.{may_alter_shape}
+use Rattle.kr_steps.proofs.law_steady.CallLemmas.{calls_leave_shape, programs_leave_both}
+use Rattle.kr_steps.proofs.law_steady.ExactLemmas.{same_shape}
+use Rattle.kr_steps.proofs.law_steady.LeavingLemmas.{shape_stays_along}
 use Rattle.kr_steps.specs.kr_stops.Remembering.{FreeAgrees, FreesCaller, LastsWithShape, can_alter_shape}
 use Rattle.kr_steps.specs.kr_stops.Stopped.{image_in, no_image, nothing_handed}
 use Rattle.kr_turns.specs.Agreeing.{AgreesIn}

@@ -12,10 +12,10 @@ use Rattle.kr_execve.specs.kr_calls.CallTable.{line}
 use Rattle.kr_execve.specs.kr_calls.Decoding.{Decoded, accepts, decoded_openat, decoding, decoding_of, has_bad_open_flags, named, openat_with, refuses, text_limit, unless, with_text}
 use Rattle.kr_execve.specs.kr_calls.declared.request.Request.{Request}
 use Rattle.kr_execve.specs.kr_calls.declared.request.Request.TheVariants as call
-use Rattle.law_steady.specs.kr_model.FileRows.{creates}
+use Rattle.kr_steps.specs.kr_model.FileRows.{creates}
 use Rattle.kr_execve.proofs.kr_calls.DecodingLemmas.{decoded_are_numbered}
 use Rattle.kr_execve.proofs.kr_calls.TextLemmas.{chosen, read_text_is}
-use Rattle.law_steady.specs.Calls.{may_alter_shape}
+use Rattle.kr_steps.specs.law_steady.Calls.{may_alter_shape}
 use Rattle.kr_steps.specs.kr_stops.Remembering.{can_alter_shape, is_shape_call}
 
 -- ---- the flags of openat(2)

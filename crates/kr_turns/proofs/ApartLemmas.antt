@@ -11,12 +11,12 @@ use Rattle.kr_execve.specs.kr_calls.Decoding.{decoding}
 use Rattle.kr_execve.specs.kr_calls.declared.request.Request.{Request}
 use Rattle.kr_execve.specs.kr_calls.declared.request.Request.TheVariants as call
 use Rattle.kr_execve.specs.kr_view.View.{Row}
-use Rattle.law_steady.specs.kr_model.Applied.{Mounts, all_applied, images, with_image, with_living}
-use Rattle.law_steady.specs.kr_model.Change.{End}
-use Rattle.law_steady.specs.kr_model.State.{Image, Process, State, process, with_process}
-use Rattle.law_steady.specs.kr_model.Walks.{targets_of}
-use Rattle.law_steady.specs.kr_model.declared.outcome.Outcome.{Outcome}
-use Rattle.law_steady.specs.kr_model.declared.outcome.Outcome.TheVariants.{Answer, Wait, Ended, NoMemory}
+use Rattle.kr_steps.specs.kr_model.Applied.{Mounts, all_applied, images, with_image, with_living}
+use Rattle.kr_steps.specs.kr_model.Change.{End}
+use Rattle.kr_steps.specs.kr_model.State.{Image, Process, State, process, with_process}
+use Rattle.kr_steps.specs.kr_model.Walks.{targets_of}
+use Rattle.kr_steps.specs.kr_model.declared.outcome.Outcome.{Outcome}
+use Rattle.kr_steps.specs.kr_model.declared.outcome.Outcome.TheVariants.{Answer, Wait, Ended, NoMemory}
 use Rattle.kr_steps.specs.law_allowed.Told.{mounts_walked}
 use Rattle.kr_steps.specs.law_allowed.Others.{LivesOn}
 use Rattle.kr_steps.proofs.law_allowed.OthersLemmas.{all_others_live, lives_on, one_changed, others_live, unchanged}

@@ -17,17 +17,17 @@ use Rattle.kr_execve.specs.kr_tree.declared.place.Place.{Place}
 use Rattle.kr_execve.specs.kr_view.Leads.{numbered}
 use Rattle.kr_execve.specs.kr_view.declared.target.Reach.{Reach}
 use Rattle.kr_execve.specs.kr_view.View.{Row, StandsIn}
-use Rattle.law_steady.specs.kr_files.declared.opened.Opened.{Opened}
-use Rattle.law_steady.specs.kr_files.Descriptors.{Meanings, Named}
-use Rattle.law_steady.specs.kr_files.Files.{Table, file_at}
-use Rattle.law_steady.specs.kr_model.Applied.{Mounts, images}
-use Rattle.law_steady.specs.kr_model.Change.{Change, End}
-use Rattle.law_steady.specs.kr_model.FileRows.{is_dir}
-use Rattle.law_steady.specs.kr_model.Known.{Known, known}
-use Rattle.law_steady.specs.kr_model.Operation.{operation}
-use Rattle.law_steady.specs.kr_model.Reply.{Reply, Replying, refusal}
-use Rattle.law_steady.specs.kr_model.State.{Image, Process, State, image_layout}
-use Rattle.law_steady.specs.kr_model.Walks.{Targets, seen_of, targets_of}
+use Rattle.kr_hostview.specs.kr_files.declared.opened.Opened.{Opened}
+use Rattle.kr_hostview.specs.kr_files.Descriptors.{Meanings, Named}
+use Rattle.kr_hostview.specs.kr_files.Files.{Table, file_at}
+use Rattle.kr_steps.specs.kr_model.Applied.{Mounts, images}
+use Rattle.kr_steps.specs.kr_model.Change.{Change, End}
+use Rattle.kr_steps.specs.kr_model.FileRows.{is_dir}
+use Rattle.kr_steps.specs.kr_model.Known.{Known, known}
+use Rattle.kr_steps.specs.kr_model.Operation.{operation}
+use Rattle.kr_steps.specs.kr_model.Reply.{Reply, Replying, refusal}
+use Rattle.kr_steps.specs.kr_model.State.{Image, Process, State, image_layout}
+use Rattle.kr_steps.specs.kr_model.Walks.{Targets, seen_of, targets_of}
 use Rattle.kr_hostview.specs.kr_ops.declared.state.State.{State as Kept}
 use Rattle.kr_hostview.specs.kr_ops.Meaning.{meaning}
 use Rattle.kr_calm.specs.kr_seen.Numbered.{opened_numbered, process_numbered, state_numbered, table_numbered}

@@ -7,9 +7,9 @@ use Rattle.kr_steps.specs.rv_mem.Memory.{Memory, after_read, with_pages}
 use Rattle.kr_steps.specs.rv_mem.Pages.{IsPlaced, IsWhole, written}
 use Rattle.kr_steps.specs.rv_mem.declared.regs.Regs.{Regs}
 use Rattle.kr_execve.specs.kr_view.View.{Row}
-use Rattle.law_steady.specs.kr_model.Applied.{with_living}
-use Rattle.law_steady.specs.kr_model.State as model
-use Rattle.law_steady.specs.kr_model.State.{Image}
+use Rattle.kr_steps.specs.kr_model.Applied.{with_living}
+use Rattle.kr_steps.specs.kr_model.State as model
+use Rattle.kr_steps.specs.kr_model.State.{Image}
 use Rattle.kr_steps.proofs.law_allowed.RowLemmas.{StaysLike, stays-like}
 use Rattle.kr_hostview.specs.kr_ops.declared.state.Process.{Process}
 use Rattle.kr_hostview.specs.kr_ops.declared.state.State.{State}

@@ -1,5 +1,5 @@
 -- What a kernel that holds a process at a stop knows of its state.
-use Rattle.std.proofs.Common.{◌≡◌, ◌≤◌, ◌^◌, ℕ, List, refl, sym, ap, subst, ◌∙◌}
+use Rattle.std.proofs.Common.{◌≡◌, ◌≤◌, ◌^◌, ℕ, Bool, true, false, not, List, refl, sym, ap, subst, ◌∙◌}
 use Rattle.std.specs.Prelude.{Option, Result, Ok, Err, OnOk, OnErr, IsSome}
 use Rattle.std.specs.Option.{option_map, option_map_or}
 use Rattle.kr_hostview.specs.pr_base.Peeks.{NamesAreTexts}
@@ -11,9 +11,9 @@ use Rattle.kr_execve.specs.kr_calls.Decoding.{decoding}
 use Rattle.kr_execve.specs.kr_calls.declared.fault.CallFault.{CallFault}
 use Rattle.kr_execve.specs.kr_calls.declared.request.Request.{Request}
 use Rattle.kr_execve.specs.kr_view.View.{Row}
-use Rattle.law_steady.specs.kr_model.Peeks.{peeked_of}
-use Rattle.law_steady.specs.kr_model.State as model
-use Rattle.law_steady.specs.kr_model.State.{Image}
+use Rattle.kr_steps.specs.kr_model.Peeks.{peeked_of}
+use Rattle.kr_steps.specs.kr_model.State as model
+use Rattle.kr_steps.specs.kr_model.State.{Image}
 use Rattle.kr_calm.proofs.law_lawful.AfterLemmas.{some-of}
 use Rattle.kr_hostview.specs.kr_ops.declared.state.State.{State}
 use Rattle.kr_hostview.specs.kr_ops.Meaning.{meaning}
@@ -26,7 +26,7 @@ use Rattle.kr_calm.proofs.kr_seen.LookLemmas.{asked-numbered, process-numbered}
 use Rattle.kr_steps.specs.Computing.{Requests, computed}
 use Rattle.kr_turns.specs.Held.{Held, Stands, stopped_in, stopped_of}
 use Rattle.kr_steps.specs.kr_stops.declared.handed.Handed.{Handed}
-use Rattle.kr_steps.specs.kr_stops.Stopped.{IsThere, Stopped, edited, image_at, image_in, no_image}
+use Rattle.kr_steps.specs.kr_stops.Stopped.{IsThere, Stopped, edited, image_at, image_in, no_image, unmet_after}
 use Rattle.kr_steps.proofs.kr_stops.EditLemmas.{computed-lives, there}
 use Rattle.kr_turns.proofs.NumberLemmas.{computed-numbered, pids-numbered}
 
@@ -39,6 +39,11 @@ pub told-here : {P T : Type 0} {M : ℕ} (number : T → ℕ) (v : Asked T M) (s
     → peeked_of (meaning v.state) v.caller ≡ peeked_of (stopped_of number h).state h.pid
 told-here {T = T} number v s pid h state caller own number-own =
     ap (λ t. peeked_of (meaning t) v.caller) (state ∙ own) ∙ ap (peeked_of (meaning h.state)) (caller ∙ number-own) ∙ sym ((hosts-have-one-mount {T = T}).peeked number (meaning h.state) h.pid)
+
+-- what was asked where none was met before
+pub met-asked : (asks before : Bool) → before ≡ true → not (unmet_after asks before) ≡ asks
+met-asked true before none = refl
+met-asked false before none = ap not none
 
 -- ---- what is left of the state
 

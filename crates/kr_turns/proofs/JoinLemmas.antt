@@ -4,7 +4,7 @@ use Rattle.kr_steps.specs.rv_cpu.Run.{Ran, ran}
 use Rattle.kr_steps.specs.rv_cpu.declared.event.Event.{Event}
 use Rattle.kr_steps.specs.rv_cpu.declared.event.Event.TheVariants.{Next, Call, Killed}
 use Rattle.kr_execve.specs.kr_view.View.{Row}
-use Rattle.law_steady.specs.kr_model.State.{Image, Process, State, process}
+use Rattle.kr_steps.specs.kr_model.State.{Image, Process, State, process}
 use Rattle.kr_steps.specs.Computing.{computed}
 use Rattle.kr_turns.specs.Laws.{TurnsAreFunctions}
 use Rattle.kr_turns.specs.Breaking.{plain_rule}

@@ -6,14 +6,14 @@ use Rattle.kr_steps.specs.rv_mem.Memory.{Memory}
 use Rattle.kr_execve.specs.kr_calls.declared.request.Request.{Request}
 use Rattle.kr_execve.specs.kr_view.declared.target.Reach.{Reach}
 use Rattle.kr_execve.specs.kr_view.View.{Row}
-use Rattle.law_steady.specs.kr_model.Known.{Known, known}
-use Rattle.law_steady.specs.kr_model.Operation.{operation}
-use Rattle.law_steady.specs.kr_model.Reply.{Reply}
-use Rattle.law_steady.specs.kr_model.State as model
-use Rattle.law_steady.specs.kr_model.State.{Image, image_layout}
-use Rattle.law_steady.specs.kr_model.Walks.{seen, targets_of}
-use Rattle.law_steady.specs.kr_model.declared.outcome.Outcome.{Outcome}
-use Rattle.law_steady.specs.kr_model.declared.outcome.Outcome.TheVariants.{Answer, Wait, Ended, NoMemory}
+use Rattle.kr_steps.specs.kr_model.Known.{Known, known}
+use Rattle.kr_steps.specs.kr_model.Operation.{operation}
+use Rattle.kr_steps.specs.kr_model.Reply.{Reply}
+use Rattle.kr_steps.specs.kr_model.State as model
+use Rattle.kr_steps.specs.kr_model.State.{Image, image_layout}
+use Rattle.kr_steps.specs.kr_model.Walks.{seen, targets_of}
+use Rattle.kr_steps.specs.kr_model.declared.outcome.Outcome.{Outcome}
+use Rattle.kr_steps.specs.kr_model.declared.outcome.Outcome.TheVariants.{Answer, Wait, Ended, NoMemory}
 use Rattle.kr_steps.specs.law_allowed.Told.{mounts_walked}
 use Rattle.kr_hostview.specs.kr_ops.declared.state.State.{State}
 use Rattle.kr_hostview.specs.kr_ops.Meaning.{meaning}

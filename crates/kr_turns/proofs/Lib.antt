@@ -1,4 +1,4 @@
-pub use Rattle.law_steady.proofs.pr_base as pr_base
+pub use Rattle.kr_calm.proofs.pr_base as pr_base
 pub use Rattle.kr_steps.proofs.rv_cpu as rv_cpu
 pub use Rattle.kr_execve.proofs.elf_load as elf_load
 pub use Rattle.kr_execve.proofs.kr_calls as kr_calls
@@ -10,7 +10,7 @@ pub use Rattle.kr_execve.proofs.kr_exec as kr_exec
 pub use Rattle.kr_calm.proofs as kr_calm
 pub use Rattle.kr_steps.proofs as kr_steps
 pub use Rattle.kr_steps.proofs.kr_stops as kr_stops
-pub use Rattle.law_steady.proofs as law_steady
+pub use Rattle.kr_steps.proofs.law_steady as law_steady
 pub mod EditingLemmas
 pub mod HereLemmas
 pub mod NumberLemmas
@@ -26,4 +26,5 @@ pub mod ApartLemmas
 pub mod MakingLemmas
 pub mod WaitingLemmas
 pub mod AlteringLemmas
+pub mod AlteredLemmas
 pub mod AgreeLemmas

@@ -12,10 +12,10 @@ use Rattle.kr_steps.specs.rv_mem.Actions.{CarriedOut, carried_out}
 use Rattle.kr_steps.specs.rv_mem.Memory.{Memory}
 use Rattle.kr_steps.specs.rv_mem.declared.regs.Regs.{Regs}
 use Rattle.kr_execve.specs.kr_view.View.{Row}
-use Rattle.law_steady.specs.kr_model.Applied.{Mounts, images}
-use Rattle.law_steady.specs.kr_model.Change.{End}
-use Rattle.law_steady.specs.kr_model.State as model
-use Rattle.law_steady.specs.kr_model.State.{Image, Process}
+use Rattle.kr_steps.specs.kr_model.Applied.{Mounts, images}
+use Rattle.kr_steps.specs.kr_model.Change.{End}
+use Rattle.kr_steps.specs.kr_model.State as model
+use Rattle.kr_steps.specs.kr_model.State.{Image, Process}
 use Rattle.kr_calm.proofs.law_lawful.AfterLemmas.{some-of}
 use Rattle.kr_calm.proofs.law_lawful.ProcessChangeLemmas.{found-passes}
 use Rattle.kr_calm.proofs.law_lawful.SumLemmas.{passed-test}

@@ -8,15 +8,15 @@ use Rattle.kr_steps.specs.rv_mem.Memory.{Memory, after_read}
 use Rattle.kr_execve.specs.kr_calls.declared.request.Request.{Request}
 use Rattle.kr_execve.specs.kr_calls.declared.request.Request.TheVariants as call
 use Rattle.kr_execve.specs.kr_view.View.{Row}
-use Rattle.law_steady.specs.kr_model.Known.{Known, known}
-use Rattle.law_steady.specs.kr_model.Lawful.{ArePids, IsLawful}
-use Rattle.law_steady.specs.kr_model.Operation.{operation}
-use Rattle.law_steady.specs.kr_model.Reply.{Reply}
-use Rattle.law_steady.specs.kr_model.Seen.{Seen}
-use Rattle.law_steady.specs.kr_model.State as model
-use Rattle.law_steady.specs.kr_model.State.{Image, image_layout}
-use Rattle.law_steady.specs.kr_model.Walks.{Targets, seen, targets_of}
-use Rattle.law_steady.specs.kr_model.declared.outcome.Outcome.{Outcome}
+use Rattle.kr_steps.specs.kr_model.Known.{Known, known}
+use Rattle.kr_steps.specs.kr_model.Lawful.{ArePids, IsLawful}
+use Rattle.kr_steps.specs.kr_model.Operation.{operation}
+use Rattle.kr_steps.specs.kr_model.Reply.{Reply}
+use Rattle.kr_steps.specs.kr_model.Seen.{Seen}
+use Rattle.kr_steps.specs.kr_model.State as model
+use Rattle.kr_steps.specs.kr_model.State.{Image, image_layout}
+use Rattle.kr_steps.specs.kr_model.Walks.{Targets, seen, targets_of}
+use Rattle.kr_steps.specs.kr_model.declared.outcome.Outcome.{Outcome}
 use Rattle.kr_steps.specs.law_allowed.Lasting.{Lasts}
 use Rattle.kr_calm.proofs.law_lawful.AfterLemmas.{some-of}
 use Rattle.kr_steps.specs.law_allowed.Told.{mounts_walked}

@@ -8,14 +8,14 @@ use Rattle.kr_hostview.specs.pr_base.declared.errno.Errno.{Errno}
 use Rattle.kr_steps.specs.rv_mem.Actions.{CarriedOut, carried_out}
 use Rattle.kr_steps.specs.rv_mem.Memory.{Memory}
 use Rattle.kr_steps.specs.rv_mem.declared.regs.Regs.{Regs}
-use Rattle.law_steady.specs.kr_model.Applied.{Mounts, images, with_living}
-use Rattle.law_steady.specs.kr_model.Lawful.{ArePids, RiseFrom}
-use Rattle.law_steady.specs.kr_model.ProcessRows.{most_processes}
-use Rattle.law_steady.specs.kr_model.Reply.{Reply, Replying}
-use Rattle.law_steady.specs.kr_model.State as model
-use Rattle.law_steady.specs.kr_model.State.{Image, Process, State, image_layout, process, with_process}
-use Rattle.law_steady.specs.kr_model.declared.outcome.Outcome.{Outcome}
-use Rattle.law_steady.specs.kr_model.declared.outcome.Outcome.TheVariants.{Answer, Wait, Ended, NoMemory}
+use Rattle.kr_steps.specs.kr_model.Applied.{Mounts, images, with_living}
+use Rattle.kr_steps.specs.kr_model.Lawful.{ArePids, RiseFrom}
+use Rattle.kr_steps.specs.kr_model.ProcessRows.{most_processes}
+use Rattle.kr_steps.specs.kr_model.Reply.{Reply, Replying}
+use Rattle.kr_steps.specs.kr_model.State as model
+use Rattle.kr_steps.specs.kr_model.State.{Image, Process, State, image_layout, process, with_process}
+use Rattle.kr_steps.specs.kr_model.declared.outcome.Outcome.{Outcome}
+use Rattle.kr_steps.specs.kr_model.declared.outcome.Outcome.TheVariants.{Answer, Wait, Ended, NoMemory}
 use Rattle.kr_calm.specs.kr_seen.Numbered.{process_numbered, state_numbered}
 use Rattle.kr_calm.specs.kr_seen.Mounts.{mounts_numbered}
 use Rattle.kr_calm.proofs.kr_seen.ChangeLemmas.{living-numbered}

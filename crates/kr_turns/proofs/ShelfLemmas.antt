@@ -7,8 +7,8 @@ use Rattle.kr_steps.specs.rv_mem.Memory.{Memory}
 use Rattle.kr_steps.specs.rv_mem.declared.regs.Regs.{Regs}
 use Rattle.kr_execve.specs.kr_calls.Arguments.{number}
 use Rattle.kr_calm.specs.Shelf.{has_path, is_usable, lacks_shelf_by, shelf_size, shelf_start, shelved_by, stack_pointer, with_shelf_marked}
-use Rattle.law_steady.specs.kr_model.State as model
-use Rattle.law_steady.specs.kr_model.State.{Image}
+use Rattle.kr_steps.specs.kr_model.State as model
+use Rattle.kr_steps.specs.kr_model.State.{Image}
 use Rattle.kr_hostview.specs.kr_ops.declared.state.State.{State}
 use Rattle.kr_hostview.specs.kr_ops.Meaning.{meaning}
 use Rattle.kr_calm.specs.kr_seen.Numbered.{state_numbered}

@@ -14,14 +14,14 @@ use Rattle.kr_execve.specs.kr_view.View.{Row}
 use Rattle.kr_execve.specs.kr_view.Walk.{PlaceTarget}
 use Rattle.kr_execve.specs.kr_view.declared.target.Target.{Target}
 use Rattle.kr_calm.specs.kr_seen.CallWalks.{AreTargets, IsTold}
-use Rattle.law_steady.specs.kr_files.WithoutMounts.{without_mount}
-use Rattle.law_steady.specs.kr_files.declared.opened.Opened.{Opened}
-use Rattle.law_steady.specs.kr_model.Asking.{descriptor_number}
-use Rattle.law_steady.specs.kr_model.Known.{Known, caller_of, known, no_caller}
-use Rattle.law_steady.specs.kr_model.Seen.{LooksUp, NoPath, WalkFails}
-use Rattle.law_steady.specs.kr_model.State as model
-use Rattle.law_steady.specs.kr_model.Walks as walks
-use Rattle.law_steady.specs.kr_model.Walks.{and_then, looked_at, looks_up, seen, seen_of, target_at, targets_of, told_by}
+use Rattle.kr_hostview.specs.kr_files.WithoutMounts.{without_mount}
+use Rattle.kr_hostview.specs.kr_files.declared.opened.Opened.{Opened}
+use Rattle.kr_steps.specs.kr_model.Asking.{descriptor_number}
+use Rattle.kr_steps.specs.kr_model.Known.{Known, caller_of, known, no_caller}
+use Rattle.kr_steps.specs.kr_model.Seen.{LooksUp, NoPath, WalkFails}
+use Rattle.kr_steps.specs.kr_model.State as model
+use Rattle.kr_steps.specs.kr_model.Walks as walks
+use Rattle.kr_steps.specs.kr_model.Walks.{and_then, looked_at, looks_up, seen, seen_of, target_at, targets_of, told_by}
 use Rattle.kr_hostview.specs.kr_ops.declared.state.Process.{Process}
 use Rattle.kr_hostview.specs.kr_ops.declared.state.State.{State}
 use Rattle.kr_hostview.specs.kr_ops.Living.{HasPid}

@@ -11,18 +11,18 @@ use Rattle.kr_execve.specs.kr_calls.Kinds.{Kind, PutsIntoPipe, Reaps, Seeks, Tak
 use Rattle.kr_execve.specs.kr_calls.declared.request.Request.{Request}
 use Rattle.kr_execve.specs.kr_calls.declared.request.Request.TheVariants as call
 use Rattle.kr_execve.specs.kr_view.View.{Row}
-use Rattle.law_steady.specs.kr_files.Descriptors.{Named}
-use Rattle.law_steady.specs.kr_files.Files.{at_offset, with_opened}
-use Rattle.law_steady.specs.kr_model.Applied.{Mounts, all_applied, applied, images, with_files, with_image, with_living}
-use Rattle.law_steady.specs.kr_model.Change.{Change, ChangeDirectory, OfDescriptor, OfDirectory, OfFound, OpenFile, PutIntoPipe, Reap, ReplaceExecutable, Seek, TakeFromPipe, TakeInput, WriteErr, WriteFile, WriteOut}
-use Rattle.law_steady.specs.kr_model.ChangeKinds.{kind}
-use Rattle.law_steady.specs.kr_model.Known.{known}
-use Rattle.law_steady.specs.kr_model.Laws.{may_wait}
-use Rattle.law_steady.specs.kr_model.Reply.{Reply}
-use Rattle.law_steady.specs.kr_model.State.{Image, Process, State, at_pid, image_layout, is_pid, named, process, with_process}
-use Rattle.law_steady.specs.kr_model.Walks.{seen, targets_of}
-use Rattle.law_steady.specs.kr_model.declared.outcome.Outcome.{Outcome}
-use Rattle.law_steady.specs.kr_model.declared.outcome.Outcome.TheVariants.{Answer, Ended, NoMemory, Wait}
+use Rattle.kr_hostview.specs.kr_files.Descriptors.{Named}
+use Rattle.kr_hostview.specs.kr_files.Files.{at_offset, with_opened}
+use Rattle.kr_steps.specs.kr_model.Applied.{Mounts, all_applied, applied, images, with_files, with_image, with_living}
+use Rattle.kr_steps.specs.kr_model.Change.{Change, ChangeDirectory, OfDescriptor, OfDirectory, OfFound, OpenFile, PutIntoPipe, Reap, ReplaceExecutable, Seek, TakeFromPipe, TakeInput, WriteErr, WriteFile, WriteOut}
+use Rattle.kr_steps.specs.kr_model.ChangeKinds.{kind}
+use Rattle.kr_steps.specs.kr_model.Known.{known}
+use Rattle.kr_steps.specs.kr_model.Laws.{may_wait}
+use Rattle.kr_steps.specs.kr_model.Reply.{Reply}
+use Rattle.kr_steps.specs.kr_model.State.{Image, Process, State, at_pid, image_layout, is_pid, named, process, with_process}
+use Rattle.kr_steps.specs.kr_model.Walks.{seen, targets_of}
+use Rattle.kr_steps.specs.kr_model.declared.outcome.Outcome.{Outcome}
+use Rattle.kr_steps.specs.kr_model.declared.outcome.Outcome.TheVariants.{Answer, Ended, NoMemory, Wait}
 use Rattle.kr_calm.proofs.kr_seen.kr_model.KeepingLemmas.{both_true}
 use Rattle.kr_calm.proofs.kr_seen.kr_model.LineLemmas.{answer_passes, by_answer, row_keeps, row_waits}
 use Rattle.kr_calm.proofs.law_lawful.ProcessChangeLemmas.{found as found-changed}

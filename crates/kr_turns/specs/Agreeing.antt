@@ -1,6 +1,6 @@
 -- What a watcher keeps agrees with the tree of a state, as its user walks it.
 use Rattle.std.specs.Prelude.{ℕ}
-use Rattle.law_steady.specs.kr_inode.declared.user.User.{User}
+use Rattle.kr_hostview.specs.kr_inode.declared.user.User.{User}
 use Rattle.kr_execve.specs.kr_tree.Tree.{Tree}
 use Rattle.kr_hostview.specs.kr_ops.declared.state.State.{State}
 

@@ -9,10 +9,10 @@ use Rattle.kr_execve.specs.kr_calls.declared.request.Request.{Request}
 use Rattle.kr_execve.specs.kr_calls.declared.request.Request.TheVariants as call
 use Rattle.kr_execve.specs.kr_view.declared.target.Reach.{Reach}
 use Rattle.kr_execve.specs.kr_view.View.{Row}
-use Rattle.law_steady.specs.kr_model.Applied.{Mounts}
-use Rattle.law_steady.specs.kr_model.Change.{Change, End}
-use Rattle.law_steady.specs.kr_model.State.{Image, Process, State, process}
-use Rattle.law_steady.specs.kr_model.Walks.{targets_of}
+use Rattle.kr_steps.specs.kr_model.Applied.{Mounts}
+use Rattle.kr_steps.specs.kr_model.Change.{Change, End}
+use Rattle.kr_steps.specs.kr_model.State.{Image, Process, State, process}
+use Rattle.kr_steps.specs.kr_model.Walks.{targets_of}
 use Rattle.kr_steps.specs.law_allowed.Told.{mounts_walked}
 use Rattle.kr_calm.specs.kr_seen.Carrying.{memory_of, with_memory_of}
 use Rattle.kr_calm.specs.kr_seen.CallWalks.{call_reach}

@@ -1,7 +1,7 @@
 -- The three steps of a call, each by itself: its first stop, the call as the kernel carries it out, and its second stop.
 use Rattle.std.specs.Prelude.{◌≡◌, ℕ, Bool, List, Option, Some, None}
 use Rattle.kr_execve.specs.kr_view.View.{Row}
-use Rattle.law_steady.specs.kr_model.State.{Image, Process, process}
+use Rattle.kr_steps.specs.kr_model.State.{Image, Process, process}
 use Rattle.kr_turns.specs.Breaking.{plain_rule}
 use Rattle.kr_turns.specs.PlainCall.{Came, plain_call}
 use Rattle.kr_turns.specs.Shelving.{lacks_in}

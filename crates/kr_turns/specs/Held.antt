@@ -1,9 +1,9 @@
 -- A process that a kernel holds at a stop.
-use Rattle.std.specs.Prelude.{ℕ, ◌≤◌, ◌^◌, List, IsSome}
+use Rattle.std.specs.Prelude.{ℕ, ◌≤◌, ◌^◌, Bool, List, IsSome}
 use Rattle.kr_hostview.specs.pr_base.Peeks.{NamesAreTexts}
 use Rattle.kr_execve.specs.kr_view.View.{Row}
-use Rattle.law_steady.specs.kr_model.Peeks.{peeked_of}
-use Rattle.law_steady.specs.kr_model.State.{process}
+use Rattle.kr_steps.specs.kr_model.Peeks.{peeked_of}
+use Rattle.kr_steps.specs.kr_model.State.{process}
 use Rattle.kr_hostview.specs.kr_ops.declared.state.State.{State}
 use Rattle.kr_hostview.specs.kr_ops.Meaning.{meaning}
 use Rattle.kr_calm.specs.kr_seen.Numbered.{state_numbered}
@@ -30,6 +30,8 @@ pub record Held (P T : Type 0) (M : ℕ) : Type 0 where
   pub calls : ℕ
   -- which state was lent
   pub lent : ℕ
+  -- whether no peek looked up a name in the process directory at this stop
+  pub unmet : Bool
   pub texts : ∥ NamesAreTexts (peeked_of (meaning state) pid) ∥₁
 
 -- what a watcher leaves of it but for what is in the state

@@ -1,7 +1,7 @@
 -- What a watcher may be told of a process that is held at a stop. No clause cites this module.
 use Rattle.std.proofs.Common.{◌≡◌, ℕ, sym, ap, subst}
 use Rattle.kr_hostview.specs.pr_base.Peeks.{NamesAreTexts}
-use Rattle.law_steady.specs.kr_model.Peeks.{peeked_of}
+use Rattle.kr_steps.specs.kr_model.Peeks.{peeked_of}
 use Rattle.kr_hostview.specs.kr_ops.Meaning.{meaning}
 use Rattle.kr_hostview.specs.Texts.{texts-told}
 use Rattle.kr_hostview.proofs.NumberLemmas.{peeked-told}

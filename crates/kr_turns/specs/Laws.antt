@@ -4,10 +4,10 @@ use Rattle.kr_execve.specs.kr_view.View.{Row}
 use Rattle.kr_execve.specs.kr_calls.CallTable.{line}
 use Rattle.kr_execve.specs.kr_calls.declared.request.Request.{Request}
 use Rattle.kr_execve.specs.kr_tree.Lawful.{IsKept}
-use Rattle.law_steady.specs.kr_model.Judged.{HasShape}
-use Rattle.law_steady.specs.kr_model.Known.{known}
-use Rattle.law_steady.specs.kr_model.State.{Image, Process, State, image_layout}
-use Rattle.law_steady.specs.kr_model.Walks.{seen}
+use Rattle.kr_steps.specs.kr_model.Judged.{HasShape}
+use Rattle.kr_steps.specs.kr_model.Known.{known}
+use Rattle.kr_steps.specs.kr_model.State.{Image, Process, State, image_layout}
+use Rattle.kr_steps.specs.kr_model.Walks.{seen}
 use Rattle.kr_steps.specs.Waiting.{picked_process}
 use Rattle.kr_turns.specs.CallSteps.{AreThreeSteps, three_steps}
 use Rattle.kr_turns.specs.PlainCall.{operated, plain_call}

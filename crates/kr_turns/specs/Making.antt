@@ -9,7 +9,7 @@ use Rattle.kr_steps.specs.rv_cpu.declared.event.Event.TheVariants.{Next, Call, K
 use Rattle.kr_steps.specs.law_allowed.Others.{LivesOn}
 use Rattle.kr_execve.specs.kr_view.View.{Row}
 use Rattle.kr_calm.specs.declared.rule.Rule.{Rule}
-use Rattle.law_steady.specs.kr_model.State.{Image, Process, State as Model, process}
+use Rattle.kr_steps.specs.kr_model.State.{Image, Process, State as Model, process}
 use Rattle.kr_hostview.specs.kr_ops.declared.state.State.{State}
 use Rattle.kr_hostview.specs.kr_ops.Meaning.{meaning}
 use Rattle.kr_calm.specs.kr_seen.Numbered.{state_numbered}

@@ -13,13 +13,13 @@ use Rattle.kr_execve.specs.kr_calls.declared.request.Request.TheVariants as call
 use Rattle.kr_execve.specs.kr_view.View.{Row, is_root_place}
 use Rattle.kr_execve.specs.kr_view.Walk.{PlaceTarget}
 use Rattle.kr_execve.specs.kr_view.declared.target.Reach.{Reach}
-use Rattle.law_steady.specs.kr_model.Known.{known}
-use Rattle.law_steady.specs.kr_model.Operation.{operation}
-use Rattle.law_steady.specs.kr_model.Reply.{Reply}
-use Rattle.law_steady.specs.kr_model.State.{Image, Process, State, image_layout, process}
-use Rattle.law_steady.specs.kr_model.Walks.{Targets, seen, targets_of}
-use Rattle.law_steady.specs.kr_model.declared.outcome.Outcome.{Outcome}
-use Rattle.law_steady.specs.kr_model.declared.outcome.Outcome.TheVariants.{Answer, Wait, Ended, NoMemory}
+use Rattle.kr_steps.specs.kr_model.Known.{known}
+use Rattle.kr_steps.specs.kr_model.Operation.{operation}
+use Rattle.kr_steps.specs.kr_model.Reply.{Reply}
+use Rattle.kr_steps.specs.kr_model.State.{Image, Process, State, image_layout, process}
+use Rattle.kr_steps.specs.kr_model.Walks.{Targets, seen, targets_of}
+use Rattle.kr_steps.specs.kr_model.declared.outcome.Outcome.{Outcome}
+use Rattle.kr_steps.specs.kr_model.declared.outcome.Outcome.TheVariants.{Answer, Wait, Ended, NoMemory}
 use Rattle.kr_steps.specs.law_allowed.Told.{mounts_walked}
 use Rattle.kr_calm.specs.kr_seen.Carrying.{after_row, carried, memory_of}
 use Rattle.kr_calm.specs.kr_seen.CallWalks.{call_reach}

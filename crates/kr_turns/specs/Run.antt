@@ -2,7 +2,7 @@
 use Rattle.std.specs.Prelude.{ℕ, zero, suc, ◌%◌, List, [], ◌∷◌, length, Option, Some, None, get_or}
 use Rattle.std.specs.Option.{option_map_or}
 use Rattle.kr_execve.specs.kr_view.View.{Row}
-use Rattle.law_steady.specs.kr_model.State.{Image, State}
+use Rattle.kr_steps.specs.kr_model.State.{Image, State}
 use Rattle.kr_steps.specs.Waiting.{ready_processes}
 use Rattle.kr_turns.specs.Turn.{Machine, turn}
 use Rattle.kr_steps.specs.kr_stops.Watching.{Watcher}

@@ -1,6 +1,6 @@
 -- The shelf of a call, in the state of its kernel.
 use Rattle.std.specs.Prelude.{ℕ, Bool}
-use Rattle.law_steady.specs.kr_model.State.{Image, State}
+use Rattle.kr_steps.specs.kr_model.State.{Image, State}
 use Rattle.kr_calm.specs.Shelf.{lacks_shelf_by, shelved_by}
 use Rattle.kr_steps.specs.Computing.{computed}
 use Rattle.kr_steps.specs.kr_stops.Stopped.{image_in}

@@ -8,11 +8,11 @@ use Rattle.kr_execve.specs.kr_calls.declared.request.Request.TheVariants as call
 use Rattle.kr_execve.specs.kr_tree.declared.place.Host.{Host}
 use Rattle.kr_execve.specs.kr_tree.declared.place.Host.TheVariants as host
 use Rattle.kr_execve.specs.kr_view.Walk.{PlaceTarget}
-use Rattle.law_steady.specs.kr_files.declared.opened.Opened.{Opened}
-use Rattle.law_steady.specs.kr_model.Asking.{descriptor_number, is_processes_host, is_working_directory}
-use Rattle.law_steady.specs.kr_model.Known.{Known}
-use Rattle.law_steady.specs.kr_model.Seen.{LooksUp, NoPath, Seen}
-use Rattle.law_steady.specs.kr_model.Walks.{Targets}
+use Rattle.kr_hostview.specs.kr_files.declared.opened.Opened.{Opened}
+use Rattle.kr_steps.specs.kr_model.Asking.{descriptor_number, is_processes_host, is_working_directory}
+use Rattle.kr_steps.specs.kr_model.Known.{Known}
+use Rattle.kr_steps.specs.kr_model.Seen.{LooksUp, NoPath, Seen}
+use Rattle.kr_steps.specs.kr_model.Walks.{Targets}
 use Rattle.kr_turns.specs.declared.target.Instead.{Instead}
 use Rattle.kr_turns.specs.declared.target.Instead.TheVariants as instead
 

@@ -5,9 +5,9 @@ use Rattle.kr_steps.specs.rv_cpu.Run.{ran}
 use Rattle.kr_steps.specs.rv_cpu.declared.event.Event.{Event}
 use Rattle.kr_steps.specs.rv_cpu.declared.event.Event.TheVariants.{Next, Call, Killed}
 use Rattle.kr_execve.specs.kr_view.View.{Row}
-use Rattle.law_steady.specs.kr_model.Applied.{applied, images}
-use Rattle.law_steady.specs.kr_model.Change.{End}
-use Rattle.law_steady.specs.kr_model.State.{Image, Process, State, process}
+use Rattle.kr_steps.specs.kr_model.Applied.{applied, images}
+use Rattle.kr_steps.specs.kr_model.Change.{End}
+use Rattle.kr_steps.specs.kr_model.State.{Image, Process, State, process}
 use Rattle.kr_steps.specs.Computing.{computed}
 use Rattle.kr_steps.specs.Waiting.{picked_process}
 use Rattle.kr_calm.specs.Calm.{kept}

@@ -3,7 +3,7 @@ ghost use Rattle.std.specs.Prelude.{◌≡◌, ◌<◌, ◌↔◌, ℕ, List, Is
 ghost use Rattle.kr_steps.specs.rv_mem.Memory.{after_read, with_pages};
 ghost use Rattle.kr_steps.specs.rv_mem.Pages.{allows_all, bytes_from, written};
 ghost use Rattle.kr_steps.specs.Calls.{Runs};
-ghost use Rattle.law_steady.specs.kr_model.State.{process};
+ghost use Rattle.kr_steps.specs.kr_model.State.{process};
 ghost use Rattle.kr_hostview.specs.kr_ops.Meaning.{meaning};
 ghost use Rattle.kr_hostview.specs.kr_ops.Sound.{IsSoundFor};
 ghost use Rattle.kr_steps.specs.Computing.{computed};

@@ -1,10 +1,10 @@
 //! A process at a stop, in the state of its kernel.
-ghost use Rattle.std.specs.Prelude.{◌≡◌, ◌≤◌, ◌^◌, IsSome, refl};
-ghost use Rattle.kr_hostview.specs.NoJumps.{no-jump};
+ghost use Rattle.std.specs.Prelude.{◌≡◌, ◌≤◌, ◌^◌, true, not, IsSome, refl};
+ghost use Rattle.kr_hostview.specs.NoJumps.{fronts, no-jump};
 ghost use Rattle.kr_hostview.specs.pr_base.Peeks.{NamesAreTexts};
 ghost use Rattle.kr_steps.specs.Calls.{Runs};
-ghost use Rattle.law_steady.specs.kr_model.Peeks.{peeked_of};
-ghost use Rattle.law_steady.specs.kr_model.State.{process};
+ghost use Rattle.kr_steps.specs.kr_model.Peeks.{peeked_of};
+ghost use Rattle.kr_steps.specs.kr_model.State.{process};
 ghost use Rattle.kr_hostview.specs.kr_ops.Meaning.{meaning};
 ghost use Rattle.kr_hostview.specs.kr_ops.Sound.{IsOfView};
 ghost use Rattle.kr_turns.specs.Held.{Around, Left, Stands, around_of, left_of, stopped_in, stopped_of};
@@ -30,6 +30,7 @@ pub(crate) struct Here<'a, P: Places, const M: u8> {
     pid: u32,
     handed: Handed,
     calls: u32,
+    unmet: bool,
     ghost texts: { ∥ NamesAreTexts (peeked_of (meaning state.now) pid) ∥₁ },
 }
 
@@ -37,15 +38,15 @@ impl<'a, P: Places, const M: u8> Model for Here<'a, P, M> {
     ghost use Rattle.std.specs.Coded.{codes};
     ghost use Rattle.kr_steps.specs.rv_mem.Memory.{memory_code};
     ghost use Rattle.kr_execve.specs.kr_tree.Tree.{tree_code};
-    ghost use Rattle.law_steady.specs.kr_files.Descriptors.{descriptors_code};
-    ghost use Rattle.law_steady.specs.kr_files.Files.{kept_code};
+    ghost use Rattle.kr_hostview.specs.kr_files.Descriptors.{descriptors_code};
+    ghost use Rattle.kr_hostview.specs.kr_files.Files.{kept_code};
     ghost use Rattle.kr_turns.specs.Held.{Held, Stands};
 
     ghost Value = { Held P P.Mount M };
 
     ghost coded = { Prim.hlevel (codes, tree_code, memory_code, descriptors_code, kept_code {M = P.Mount} (Prim.hlevel (codes, P.Mount.code)), P.Mount.code, P.code) };
 
-    ghost view = { λ h. record { places = h.places.now; state = h.state.now; pid = h.pid; handed = h.handed; calls = h.calls; lent = h.state.ghost_name; texts = h.texts } };
+    ghost view = { λ h. record { places = h.places.now; state = h.state.now; pid = h.pid; handed = h.handed; calls = h.calls; lent = h.state.ghost_name; unmet = h.unmet; texts = h.texts } };
 
     ghost invariant = { λ h. Stands P.number (P.mounts h.places.now) h.calls h.pid h.state.now };
 }
@@ -64,6 +65,7 @@ impl<'a, P: Places, const M: u8> Here<'a, P, M> {
         requires lives { IsSome (process pid (meaning state.old)) }
         ensures stopped { stopped_of P.number result ≡ stopped_in P.number state.old pid handed }
         ensures around { around_of P.number result ≡ record { places = places.now; calls = calls; lent = state.entry.ghost_name } }
+        ensures unmet { result.unmet ≡ true }
     {
         names_are_texts(state, pid);
         Here {
@@ -73,7 +75,15 @@ impl<'a, P: Places, const M: u8> Here<'a, P, M> {
             pid,
             handed,
             calls,
+            unmet: true,
         }
+    }
+
+    /// Whether a peek looked up a name in the process directory.
+    pub(crate) fn met(&self) -> bool
+        ensures { result ≡ not self.now.unmet }
+    {
+        !self.unmet
     }
 
     /// The state.
@@ -110,41 +120,54 @@ impl<'a, P: Places, const M: u8> Peeks for Here<'a, P, M> {
 
     ghost kept = { left_of P.number };
 
+    ghost unmet = { λ h. h.unmet };
+
     fn kind(&mut self, host: &[u8]) -> Result<PeekKind, PeekFault> {
-        host_peeks(self.alloc, self.state, self.pid).kind(host)
+        let mut peeks = host_peeks(self.alloc, self.state, self.pid, self.unmet);
+        let kind = peeks.kind(host);
+        self.unmet = peeks.unmet();
+        kind
     }
 
     fn link_text(&mut self, host: &[u8]) -> Result<Bytes, PeekFault> {
-        host_peeks(self.alloc, self.state, self.pid).link_text(host)
+        let mut peeks = host_peeks(self.alloc, self.state, self.pid, self.unmet);
+        let text = peeks.link_text(host);
+        self.unmet = peeks.unmet();
+        text
     }
 
     fn head(&mut self, host: &[u8], n: u32) -> Result<Bytes, PeekFault> {
-        host_peeks(self.alloc, self.state, self.pid).head(host, n)
+        let mut peeks = host_peeks(self.alloc, self.state, self.pid, self.unmet);
+        let head = peeks.head(host, n);
+        self.unmet = peeks.unmet();
+        head
     }
 
     fn steady(&mut self, host: &[u8]) -> Result<bool, NoMemory> {
-        host_peeks(self.alloc, self.state, self.pid).steady(host)
+        host_peeks(self.alloc, self.state, self.pid, self.unmet).steady(host)
     }
 
     fn base_kind(&mut self, pid: u32, fd: u32) -> BaseKind {
-        host_peeks(self.alloc, self.state, self.pid).base_kind(pid, fd)
+        host_peeks(self.alloc, self.state, self.pid, self.unmet).base_kind(pid, fd)
     }
 
     fn base_name(&mut self, pid: u32, fd: u32) -> Result<Option<Bytes>, NoMemory> {
-        host_peeks(self.alloc, self.state, self.pid).base_name(pid, fd)
+        host_peeks(self.alloc, self.state, self.pid, self.unmet).base_name(pid, fd)
     }
 
     fn cwd_name(&mut self, pid: u32) -> Result<Option<Bytes>, NoMemory> {
-        host_peeks(self.alloc, self.state, self.pid).cwd_name(pid)
+        host_peeks(self.alloc, self.state, self.pid, self.unmet).cwd_name(pid)
     }
 
     fn exe_name(&mut self, pid: u32) -> Result<Option<Bytes>, NoMemory> {
-        host_peeks(self.alloc, self.state, self.pid).exe_name(pid)
+        host_peeks(self.alloc, self.state, self.pid, self.unmet).exe_name(pid)
     }
 
     ghost names_are_texts = { held-texts P.number };
 
     ghost steady_is_no_jump = { λ h. no-jump (stopped_of P.number h).state h.pid };
+
+    ghost fronts_are_steady = { λ h. fronts (stopped_of P.number h).state h.pid };
 }
 
 impl<'a, P: Places, const M: u8> Tracee for Here<'a, P, M> {
@@ -152,7 +175,7 @@ impl<'a, P: Places, const M: u8> Tracee for Here<'a, P, M> {
 
     ghost Around = { Around P };
 
-    ghost around = { around_of P.number };
+    ghost around = { λ h. (around_of P.number h, h.unmet) };
 
     fn pid(&self) -> u32 {
         self.pid
@@ -199,4 +222,6 @@ impl<'a, P: Places, const M: u8> Tracee for Here<'a, P, M> {
     ghost peeks_at_state = { λ h. refl };
 
     ghost kept_is_all = { λ h i same. left-parts _ _ same };
+
+    ghost unmet_is_told = { λ h. refl };
 }

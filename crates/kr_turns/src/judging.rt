@@ -1,12 +1,12 @@
 //! Which calm rule a turn broke, where marks are kept.
 ghost use Rattle.std.specs.Prelude.{◌≡◌, ◌≢◌, ◌||◌, ℕ, List, Ok, Some, false, IsSome};
 ghost use Rattle.kr_calm.specs.Questions.{HaveFewPoints};
-ghost use Rattle.law_steady.specs.kr_model.declared.outcome.Outcome.TheVariants.{NoMemory as WantOfMemory};
+ghost use Rattle.kr_steps.specs.kr_model.declared.outcome.Outcome.TheVariants.{NoMemory as WantOfMemory};
 ghost use Rattle.kr_steps.specs.law_allowed.Told.{mounts_walked};
 ghost use Rattle.kr_calm.specs.kr_seen.Carrying.{after_row, memory_of};
 ghost use Rattle.kr_execve.specs.kr_calls.declared.request.Request.{Request as AnyRequest};
-ghost use Rattle.law_steady.specs.kr_model.State as model;
-ghost use Rattle.law_steady.specs.kr_model.Walks.{targets_of};
+ghost use Rattle.kr_steps.specs.kr_model.State as model;
+ghost use Rattle.kr_steps.specs.kr_model.Walks.{targets_of};
 ghost use Rattle.kr_calm.specs.kr_seen.CallWalks.{AreTargets};
 ghost use Rattle.kr_calm.specs.kr_seen.Numbered.{state_numbered};
 ghost use Rattle.kr_turns.specs.Looking.{IsAhead, judged, read_told};

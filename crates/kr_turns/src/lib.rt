@@ -20,6 +20,9 @@
 //! `watched_calls_are_three_steps`). Where memories keep marks, the shelf of a call with a path is marked before its first stop, and a call whose
 //! shelf isn't there breaks a rule. Where the relations are graphs of functions the turn is a function (law `turns_are_functions`).
 //!
+//! A call is told to have altered the shape of the tree, and the bytes of a file, exactly where it did (`altered`; `IsAltered` of kr_perform); the
+//! stops leave the tree (`tree`), and instructions leave both (`leaves`), also where one of them kills.
+//!
 //! What a watcher keeps agrees with the tree before a step and behind it (`agrees`): a call leaves the shape of the tree where its caller's registers
 //! hold none that can alter it (law `plain_calls_leave_shape`), and for each other the watcher was freed at the first stop (`frees`). It stays free for
 //! that process through the steps of others (`free`), and these leave the process all that is its own (`others`).
@@ -45,4 +48,6 @@ pub use editing::register;
 pub use kr_steps::below::{Handed, Stops, Tracee, Unwatched};
 pub use kr_steps::{picked, ready};
 pub use plain::{CallEnd, Plain, plain_call};
-pub use steps::{After, CallMade, Halt, Stretch, enter_call, leave_call, make_call, run_for};
+pub use steps::{
+    After, CallMade, EntryMade, Halt, Stretch, enter_call, leave_call, make_call, run_for,
+};

@@ -2,10 +2,10 @@
 ghost use Rattle.std.specs.Prelude.{◌≡◌, ◌≢◌, ◌<◌, ◌^◌, ◌||◌, ℕ, suc, List, length, false, Ok, IfOk, OnOk};
 ghost use Rattle.kr_calm.specs.kr_seen.Carrying.{memory_of};
 ghost use Rattle.kr_turns.specs.Breaking.{nothing_reached, plain_rule, requested_rule, rule_told};
-ghost use Rattle.kr_steps.specs.Calls.{CanBeMade, CanCall, IsNoExec, Runs};
+ghost use Rattle.kr_steps.specs.Calls.{CanBeMade, CanCall, IsAltered, IsNoExec, Runs, nothing_altered};
 ghost use Rattle.kr_steps.specs.law_allowed.Texts.{IsText};
-ghost use Rattle.law_steady.specs.kr_model.Walks.{targets_of};
-ghost use Rattle.law_steady.specs.kr_model.declared.outcome.Outcome.TheVariants.{NoMemory as WantOfMemory};
+ghost use Rattle.kr_steps.specs.kr_model.Walks.{targets_of};
+ghost use Rattle.kr_steps.specs.kr_model.declared.outcome.Outcome.TheVariants.{NoMemory as WantOfMemory};
 ghost use Rattle.kr_hostview.specs.kr_ops.Meaning.{meaning};
 ghost use Rattle.kr_hostview.specs.kr_ops.Sound.{IsSound, IsSoundFor};
 ghost use Rattle.kr_calm.specs.kr_seen.CallWalks.{AreTargets};
@@ -28,7 +28,7 @@ use kr_hostview::below::{
     Errno, NoMemory, Outcome, State, Targets, lawful_states_are_sound, walk_paths,
 };
 use kr_steps::below::{Handed, NOTHING_HANDED};
-use kr_steps::{answer, carry_out_along, request, resume, stay};
+use kr_steps::{Altered, answer, carry_out_along, request, resume, stay};
 use std::alloc::Global;
 
 /// The signal that kills a process which writes into a pipe that nobody reads.
@@ -59,7 +59,15 @@ pub struct Plain {
     pub reach: Reach,
     /// The smallest calm rule that it broke. Where marks aren't kept none is.
     pub broken: Option<Rule>,
+    /// Whether the shape of the tree is another behind it, and the bytes of a file.
+    pub altered: Altered,
 }
+
+/// Neither the shape nor bytes.
+const NOTHING_ALTERED: Altered = Altered {
+    shape: false,
+    bytes: false,
+};
 
 /// Carries out the call at which a living process stands: what it asks for is decoded from its registers and its memory, its paths are
 /// walked, its row is carried out or the new program is put in place, and the caller is told the answer where it goes on. `no_shelf`
@@ -77,6 +85,7 @@ pub fn plain_call<P: Places, const M: u8>(
     ensures reach { IfOk result (λ plain. plain.reach ≡ plain_reach (P.mounts places.now) pid (state_numbered P.number (meaning state.old)) nothing_reached) }
     ensures rule { IfOk result (λ plain. plain.broken ≡ plain_rule M (P.mounts places.now) pid no_shelf (state_numbered P.number (meaning state.old))) }
     ensures runs { OnOk result ((calls : ℕ) → calls < 2 ^ 31 → Runs P.number (P.mounts places.now) calls state.old → Runs P.number (P.mounts places.now) (suc calls) state.new) }
+    ensures altered { IfOk result (λ plain. IsAltered plain.altered state.old.tree state.new.tree) }
 {
     lawful_states_are_sound::<P::Mount, M>();
     let request = match request(state, pid) {
@@ -103,6 +112,7 @@ fn carry_request<P: Places, const M: u8>(
     ensures reach { IfOk result (λ plain. plain.reach ≡ request_reach (P.mounts places.now) pid request.now (state_numbered P.number (meaning state.old)) nothing_reached) }
     ensures rule { IfOk result (λ plain. plain.broken ≡ requested_rule M (P.mounts places.now) pid no_shelf request.now (state_numbered P.number (meaning state.old))) }
     ensures runs { OnOk result ((calls : ℕ) → calls < 2 ^ 31 → Runs P.number (P.mounts places.now) calls state.old → Runs P.number (P.mounts places.now) (suc calls) state.new) }
+    ensures altered { IfOk result (λ plain. IsAltered plain.altered state.old.tree state.new.tree) }
 {
     match request {
         Request::Execve { path, args, env } => {
@@ -140,6 +150,7 @@ fn replace<P: Places, const M: u8>(
     ensures reach { IfOk result (λ plain. plain.reach ≡ request_reach (P.mounts places.now) pid (ExecveRequest path.now args env) (state_numbered P.number (meaning state.old)) nothing_reached) }
     ensures rule { IfOk result (λ plain. plain.broken ≡ requested_rule M (P.mounts places.now) pid no_shelf (ExecveRequest path.now args env) (state_numbered P.number (meaning state.old))) }
     ensures runs { OnOk result ((calls : ℕ) → Runs P.number (P.mounts places.now) calls state.old → Runs P.number (P.mounts places.now) (suc calls) state.new) }
+    ensures altered { IfOk result (λ plain. IsAltered plain.altered state.old.tree state.new.tree) }
 {
     let mut reach = NOTHING;
     match execute(alloc, places, state, pid, path, args, env, &mut reach) {
@@ -151,6 +162,7 @@ fn replace<P: Places, const M: u8>(
                 handed: NOTHING_HANDED,
                 reach,
                 broken: rule_of::<M>(marks_read, no_shelf, false, None, &reach),
+                altered: NOTHING_ALTERED,
             })
         }
         Executed::Refused(errno) => Ok(refuse(state, pid, errno, no_shelf, reach)),
@@ -175,6 +187,7 @@ fn operate<P: Places, const M: u8>(
     ensures reach { IfOk result (λ plain. plain.reach ≡ request_reach (P.mounts places.now) pid request.now (state_numbered P.number (meaning state.old)) nothing_reached) }
     ensures rule { IfOk result (λ plain. plain.broken ≡ requested_rule M (P.mounts places.now) pid no_shelf request.now (state_numbered P.number (meaning state.old))) }
     ensures runs { OnOk result ((calls : ℕ) → calls < 2 ^ 31 → Runs P.number (P.mounts places.now) calls state.old → Runs P.number (P.mounts places.now) (suc calls) state.new) }
+    ensures altered { IfOk result (λ plain. IsAltered plain.altered state.old.tree state.new.tree) }
 {
     let mut reach = NOTHING;
     let targets = match walk_paths(alloc, places, state, pid, request, &mut reach) {
@@ -185,16 +198,17 @@ fn operate<P: Places, const M: u8>(
     let handed = handed_on(places, state, pid, request, &targets);
     let next = state.next_pid;
     let ahead = look_ahead(places, state, pid, request, &targets);
-    let outcome = carry_out_along(alloc, places, state, pid, request, &targets);
-    let child = child_of(next, request, outcome);
-    let broken = judge_call(state, pid, ahead, no_shelf, &reach, outcome);
-    let end = settle(state, pid, request, outcome)?;
+    let carried = carry_out_along(alloc, places, state, pid, request, &targets);
+    let child = child_of(next, request, carried.outcome);
+    let broken = judge_call(state, pid, ahead, no_shelf, &reach, carried.outcome);
+    let end = settle(state, pid, request, carried.outcome)?;
     Ok(Plain {
         end,
         child,
         handed,
         reach,
         broken,
+        altered: carried.altered,
     })
 }
 
@@ -211,6 +225,8 @@ fn refuse<T: Copy, const M: u8>(
     ensures rule { result.broken ≡ rule_told M ((memory_of pid (meaning state.old)).read_marked || no_shelf) false None reach }
     ensures came { (number : T → ℕ) → came_to number state.new result ≡ refusal_told pid errno (state_numbered number (meaning state.old)) }
     ensures runs { (number : T → ℕ) (table : List Row) (calls : ℕ) → Runs number table calls state.old → Runs number table calls state.new }
+    ensures tree { state.new.tree ≡ state.old.tree }
+    ensures altered { result.altered ≡ nothing_altered }
 {
     let broken = idle_rule(state, pid, no_shelf, &reach);
     answer(state, pid, -i64::from(errno.number()));
@@ -220,6 +236,7 @@ fn refuse<T: Copy, const M: u8>(
         handed: NOTHING_HANDED,
         reach,
         broken,
+        altered: NOTHING_ALTERED,
     }
 }
 

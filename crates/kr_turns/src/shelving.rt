@@ -1,7 +1,7 @@
 //! The shelf of a call, in the state of its kernel.
 ghost use Rattle.std.specs.Prelude.{◌≡◌, ℕ, List};
 ghost use Rattle.kr_steps.specs.Calls.{Runs};
-ghost use Rattle.law_steady.specs.kr_model.State.{process};
+ghost use Rattle.kr_steps.specs.kr_model.State.{process};
 ghost use Rattle.kr_hostview.specs.kr_ops.Meaning.{meaning};
 ghost use Rattle.kr_hostview.specs.kr_ops.Sound.{IsSoundFor};
 ghost use Rattle.kr_turns.specs.Shelving.{lacks_in, shelved_in};

@@ -1,10 +1,11 @@
 //! The steps of a turn, each by itself: some instructions of a process; and of its call the first stop, the call, and the second stop.
 ghost use Rattle.std.specs.Prelude.{◌≡◌, ◌<◌, ◌^◌, ℕ, suc, List, length, IfOk, IsSome, OnOk};
 ghost use Rattle.kr_steps.specs.law_allowed.Told.{SourcesAreNamed};
-ghost use Rattle.kr_steps.specs.Calls.{Runs};
+ghost use Rattle.kr_steps.specs.Calls.{IsAltered, Runs};
+ghost use Rattle.kr_steps.specs.law_steady.Told.{LeavesBoth};
 ghost use Rattle.kr_execve.specs.kr_view.View.{Row};
 ghost use Rattle.kr_calm.specs.kr_seen.Numbered.{state_numbered};
-ghost use Rattle.law_steady.specs.kr_model.State.{process};
+ghost use Rattle.kr_steps.specs.kr_model.State.{process};
 ghost use Rattle.kr_hostview.specs.kr_ops.Meaning.{meaning};
 ghost use Rattle.kr_hostview.specs.kr_ops.Sound.{IsSound};
 ghost use Rattle.kr_turns.specs.Agreeing.{AgreesIn};
@@ -14,7 +15,9 @@ ghost use Rattle.kr_steps.specs.kr_stops.Remembering.{AgreesAt, FreesCaller, Kee
 ghost use Rattle.kr_steps.specs.kr_stops.Watching.{watching};
 ghost use Rattle.kr_turns.specs.Held.{Stands, stopped_in};
 ghost use Rattle.kr_steps.specs.kr_stops.Stopped.{IsEdited, nothing_handed};
-ghost use Rattle.kr_turns.specs.Turn.{IsBorn};
+ghost use Rattle.kr_turns.specs.Turn.{IsBorn, calling};
+ghost use Rattle.kr_turns.specs.Breaking.{nothing_reached};
+ghost use Rattle.kr_turns.specs.PlainCall.{plain_reach};
 
 use crate::here::Here;
 use crate::judging::{NOTHING, idle_rule, killed_rule};
@@ -25,7 +28,7 @@ use kr_execve::below::Places;
 use kr_execve::marks_read;
 use kr_hostview::below::{NoMemory, State, lawful_states_are_sound};
 use kr_steps::below::{Event, Handed, NOTHING_HANDED, Stops};
-use kr_steps::{compute, kill};
+use kr_steps::{Altered, compute, kill};
 use std::alloc::Global;
 
 /// How some instructions of a process ended.
@@ -76,6 +79,15 @@ pub enum After {
     Gone,
 }
 
+/// What the first stop of a call came to.
+#[derive(Clone, Copy)]
+pub struct EntryMade {
+    /// Whether the call has a path and its caller no shelf.
+    pub no_shelf: bool,
+    /// Whether the watcher asked for what stands at a name in the process directory.
+    pub met: bool,
+}
+
 /// What a call came to.
 #[derive(Clone, Copy)]
 pub struct CallMade {
@@ -84,6 +96,10 @@ pub struct CallMade {
     pub status: Option<u8>,
     /// The smallest calm rule that it broke. Where marks aren't kept none is.
     pub broken: Option<Rule>,
+    /// Whether the shape of the tree is another behind it, and the bytes of a file.
+    pub altered: Altered,
+    /// Whether a walk of it looked up a name in the process directory.
+    pub met: bool,
 }
 
 /// Does `fuel` instructions of a living process, or fewer where a call is met or one of them kills it. After want of memory the state and
@@ -101,6 +117,7 @@ pub fn run_for<S: Stops, T: Copy, const M: u8>(
     ensures agrees { OnOk result (AgreesIn S.agrees stops.new state.new) }
     ensures free { OnOk result (KeepsOthersFree S.is_free pid stops.old stops.new) }
     ensures others { OnOk result ((number : T → ℕ) → LeavesOthers pid (state_numbered number (meaning state.old)) (state_numbered number (meaning state.new))) }
+    ensures leaves { OnOk result (LeavesBoth state.old.tree state.new.tree) }
 {
     lawful_states_are_sound::<T, M>();
     let (event, done) = compute(state, pid, fuel)?;
@@ -131,8 +148,9 @@ pub fn run_for<S: Stops, T: Copy, const M: u8>(
     }
 }
 
-/// The first stop of the call at which a living process stands. Tells whether the call has a path and its caller no shelf. After want of
-/// memory the state and the watcher may only be dropped, as after that of the next two.
+/// The first stop of the call at which a living process stands. Tells whether the call has a path and its caller no shelf, and whether the
+/// watcher asked for what stands at a name in the process directory. After want of memory the state and the watcher may only be dropped, as
+/// after that of the next two.
 pub fn enter_call<P: Places, S: Stops, const M: u8>(
     alloc: Global,
     places: &P,
@@ -140,21 +158,23 @@ pub fn enter_call<P: Places, S: Stops, const M: u8>(
     state: &mut State<P::Mount, M>,
     calls: u32,
     pid: u32,
-) -> Result<bool, NoMemory>
+) -> Result<EntryMade, NoMemory>
     requires runs { Runs P.number (P.mounts places.now) calls state.old }
     requires lives { IsSome (process pid (meaning state.old)) }
     requires agrees { AgreesIn S.agrees stops.old state.old }
-    ensures enters { IfOk result (λ no_shelf. IsEntryMade (watching S.enters S.exits S.bears S.forgets) P.number pid state.old stops.old state.new stops.new no_shelf) }
+    ensures enters { IfOk result (λ made. IsEntryMade (watching S.enters S.exits S.bears S.forgets) P.number pid state.old stops.old state.new stops.new made.no_shelf) }
+    ensures met { IfOk result (λ made. made.met ≡ S.asks stops.old (calling M pid (state_numbered P.number (meaning state.old)))) }
     ensures stands { OnOk result (Stands P.number (P.mounts places.now) calls pid state.new) }
     ensures agrees { OnOk result (AgreesIn S.agrees stops.new state.new) }
     ensures frees { OnOk result (FreesCaller S.is_free (stopped_in P.number state.new pid nothing_handed) stops.new) }
     ensures free { OnOk result (KeepsOthersFree S.is_free pid stops.old stops.new) }
     ensures others { OnOk result (LeavesOthers pid (state_numbered P.number (meaning state.old)) (state_numbered P.number (meaning state.new))) }
+    ensures tree { OnOk result (state.new.tree ≡ state.old.tree) }
 {
     lawful_states_are_sound::<P::Mount, M>();
     let no_shelf = shelve(state, pid);
-    enter(alloc, places, stops, state, calls, pid)?;
-    Ok(no_shelf)
+    let met = enter(alloc, places, stops, state, calls, pid)?;
+    Ok(EntryMade { no_shelf, met })
 }
 
 /// The call of a process behind its first stop, which told of it whether it has a path and no shelf.
@@ -174,12 +194,14 @@ pub fn make_call<P: Places, S: Stops, const M: u8>(
     requires lives { IsSome (process pid (meaning state.old)) }
     requires agrees { AgreesIn S.agrees stops.old state.old }
     requires frees { FreesCaller S.is_free (stopped_in P.number state.old pid nothing_handed) stops.old }
+    ensures met { IfOk result (λ made. made.met ≡ (plain_reach (P.mounts places.now) pid (state_numbered P.number (meaning state.old)) nothing_reached).met_proc) }
     ensures call { IfOk result (λ made. IsCallMade (watching S.enters S.exits S.bears S.forgets) P.number (P.mounts places.now) pid no_shelf state.old stops.old state.new stops.new made) }
     ensures runs { OnOk result (Runs P.number (P.mounts places.now) (suc calls) state.new) }
     ensures agrees { OnOk result (AgreesIn S.agrees stops.new state.new) }
     ensures free { OnOk result (KeepsOthersFree S.is_free pid stops.old stops.new) }
     ensures others { OnOk result (LeavesOthers pid (state_numbered P.number (meaning state.old)) (state_numbered P.number (meaning state.new))) }
     ensures stays { IfOk result (λ made. StaysBetween S.is_free pid (state_numbered P.number (meaning state.new)) stops.new made.after) }
+    ensures altered { IfOk result (λ made. IsAltered made.altered state.old.tree state.new.tree) }
 {
     lawful_states_are_sound::<P::Mount, M>();
     let plain = plain_call(alloc, places, state, pid, no_shelf)?;
@@ -205,11 +227,12 @@ pub fn leave_call<P: Places, S: Stops, const M: u8>(
     ensures agrees { OnOk result (AgreesIn S.agrees stops.new state.new) }
     ensures free { OnOk result (KeepsOthersFree S.is_free pid stops.old stops.new) }
     ensures others { OnOk result (LeavesOthers pid (state_numbered P.number (meaning state.old)) (state_numbered P.number (meaning state.new))) }
+    ensures tree { OnOk result (state.new.tree ≡ state.old.tree) }
 {
     exit(alloc, places, stops, state, calls, pid, handed)
 }
 
-/// What the watcher does at the first stop.
+/// What the watcher does at the first stop. Tells whether it asked for what stands at a name in the process directory.
 fn enter<P: Places, S: Stops, const M: u8>(
     alloc: Global,
     places: &P,
@@ -217,10 +240,11 @@ fn enter<P: Places, S: Stops, const M: u8>(
     state: &mut State<P::Mount, M>,
     calls: u32,
     pid: u32,
-) -> Result<(), NoMemory>
+) -> Result<bool, NoMemory>
     requires runs { Runs P.number (P.mounts places.now) calls state.old }
     requires lives { IsSome (process pid (meaning state.old)) }
     requires agrees { AgreesAt S.agrees stops.old (stopped_in P.number state.old pid nothing_handed) }
+    ensures met { IfOk result (λ met. met ≡ S.asks stops.old (stopped_in P.number state.old pid nothing_handed)) }
     ensures enters { OnOk result (S.enters stops.old (stopped_in P.number state.old pid nothing_handed) stops.new (stopped_in P.number state.new pid nothing_handed)) }
     ensures edits { IsEdited (stopped_in P.number state.old pid nothing_handed) (stopped_in P.number state.new pid nothing_handed) }
     ensures stands { Stands P.number (P.mounts places.now) calls pid state.new }
@@ -230,9 +254,13 @@ fn enter<P: Places, S: Stops, const M: u8>(
 {
     let mut here = Here::new(alloc, places, state, pid, NOTHING_HANDED, calls);
     let entered = stops.entry(&mut here);
+    let met = here.met();
     // For the proof alone: the state is what was left at the stop.
     let _state = here.into_state();
-    entered
+    match entered {
+        Ok(()) => Ok(met),
+        Err(fault) => Err(fault),
+    }
 }
 
 /// And at the second one.
@@ -283,6 +311,8 @@ fn leave_behind<S: Stops, T: Copy, const M: u8>(
     requires { IsSound state.now }
     ensures left { (number : T → ℕ) → IsLeftBehind (watching S.enters S.exits S.bears S.forgets) number pid plain state.now stops.old stops.new result.after result.status }
     ensures broken { result.broken ≡ plain.broken }
+    ensures altered { result.altered ≡ plain.altered }
+    ensures met { result.met ≡ plain.reach.met_proc }
     ensures agrees { StillAgrees S.agrees stops.old stops.new }
     ensures free { KeepsOthersFree S.is_free pid stops.old stops.new }
 {
@@ -291,16 +321,22 @@ fn leave_behind<S: Stops, T: Copy, const M: u8>(
             after: behind_if(state, pid, plain.handed),
             status: None,
             broken: plain.broken,
+            altered: plain.altered,
+            met: plain.reach.met_proc,
         },
         CallEnd::Replaced => CallMade {
             after: behind_if(state, pid, plain.handed),
             status: None,
             broken: plain.broken,
+            altered: plain.altered,
+            met: plain.reach.met_proc,
         },
         CallEnd::Waits => CallMade {
             after: After::Waiting,
             status: None,
             broken: plain.broken,
+            altered: plain.altered,
+            met: plain.reach.met_proc,
         },
         CallEnd::Ended(status) => {
             stops.gone(pid);
@@ -308,6 +344,8 @@ fn leave_behind<S: Stops, T: Copy, const M: u8>(
                 after: After::Gone,
                 status: Some(status),
                 broken: plain.broken,
+                altered: plain.altered,
+                met: plain.reach.met_proc,
             }
         }
     }

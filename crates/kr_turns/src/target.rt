@@ -2,9 +2,9 @@
 ghost use Rattle.std.specs.Prelude.{◌≡◌, ℕ, Ok};
 ghost use Rattle.std.specs.Option.{option_and_then};
 ghost use Rattle.kr_calm.specs.kr_seen.CallWalks.{AreTargets};
-ghost use Rattle.law_steady.specs.kr_model.Asking.{descriptor_number, is_working_directory};
-ghost use Rattle.law_steady.specs.kr_model.Known.{known};
-ghost use Rattle.law_steady.specs.kr_model.State.{image_layout};
+ghost use Rattle.kr_steps.specs.kr_model.Asking.{descriptor_number, is_working_directory};
+ghost use Rattle.kr_steps.specs.kr_model.Known.{known};
+ghost use Rattle.kr_steps.specs.kr_model.State.{image_layout};
 ghost use Rattle.kr_hostview.specs.kr_ops.Meaning.{meaning};
 ghost use Rattle.kr_hostview.specs.kr_ops.Sound.{IsSound, IsSoundFor};
 ghost use Rattle.kr_turns.specs.Target.{inode_at, inode_here, inode_instead, inode_under, instead_of, target_of};

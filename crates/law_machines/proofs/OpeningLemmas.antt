@@ -22,7 +22,8 @@ use Rattle.law_machines.proofs.GivenLemmas.{given-is-opening}
 use Rattle.law_machines.specs.Agreeing.{CanBeTold, IsToldToo, MachinesAgree, mounted, traced as traced_run}
 use Rattle.law_machines.specs.FakedAgreeing.{FakedMachinesAgree, IsToldFaked}
 use Rattle.law_machines.proofs.ReportLemmas.{reports_are_alike}
-use Rattle.pr_top.specs.Opening.{Begun, Mounts, Traced, begun, begun_as, launch_of, opened_for, over, plan_of, started_as, watch_for}
+use Rattle.pr_top.specs.Opening.{Begun, Mounts, Traced, begins, begun, begun_as, launch_of, opened_for, over, plan_of, started_as, watch_for}
+use Rattle.pr_top.proofs.StepwiseLemmas.{begins-by-turns}
 use Rattle.law_machines.specs.Openings.{IsCalmStart, IsToldAlike, OpeningsAgree, RefusalsAgree, WordsBeginTraced, asked_on, over_mounts, with_tracer}
 
 pub refusals_agree : RefusalsAgree
@@ -40,6 +41,7 @@ same_asked a traced = λ i. record {
     env = a.options.env;
     turns = a.options.turns;
     schedule = a.options.schedule;
+    loose = a.options.loose;
     native = sym traced i;
     calm = a.options.calm;
     case = a.options.case;
@@ -51,10 +53,11 @@ same_asked a traced = λ i. record {
 }
 
 pub words_begin_traced : WordsBeginTraced
-words_begin_traced words tree elf input o a asks gives alone plainly =
+words_begin_traced words tree elf input o a asks gives alone plainly turns =
     ap (λ (r : Result Options Answer). and_then r (λ options. opened_for options.case options tree elf input)) asks
     ∙ ap (λ case. opened_for case o tree elf input) alone
-    ∙ ap (λ (r : Result Asked Answer). and_then r (λ asked. begun asked)) gives
+    ∙ ap (λ (r : Result Asked Answer). and_then r (λ asked. begins asked)) gives
+    ∙ begins-by-turns a (ap (λ (o : Options). o.loose) (read-has-options o tree elf input a gives) ∙ turns)
     ∙ ap begun (sym (same_asked a (ap (λ (o : Options). o.native) (read-has-options o tree elf input a gives) ∙ plainly)))
 
 -- ---- both machines

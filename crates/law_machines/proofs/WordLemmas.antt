@@ -6,14 +6,14 @@ use Rattle.std.specs.List.{AllByRecursion, ends_with, position, starts_with}
 use Rattle.std.specs.Option.{ok_or, option_map}
 use Rattle.std.proofs.lemmas.List.{length-drop}
 use Rattle.pr_top.specs.pr_words.declared.fault.Why.{Why}
-use Rattle.pr_top.specs.pr_words.declared.fault.Why.TheVariants.{BadEnv, BadNumber, BadBind, BadSchedule, BadId, CalmAlone, CaseAlone, ZeroByte}
+use Rattle.pr_top.specs.pr_words.declared.fault.Why.TheVariants.{BadEnv, BadNumber, BadBind, BadSchedule, BadId, CalmAlone, CaseAlone, LooseAlone, ZeroByte}
 use Rattle.pr_top.specs.pr_words.declared.fault.WordsFault.{WordsFault}
 use Rattle.pr_top.specs.pr_words.declared.options.Options.{Options}
 use Rattle.pr_top.specs.pr_words.Spelling.{by_name, cut_at, flag_named, long_named, own_value, renamed, second_or_none, short_named, spelled_or, spelling_of}
 use Rattle.pr_top.specs.pr_words.Values.{Binding, binding_of, case_of, ids_of, is_variable, parts_of, schedule_of, turns_of, variable_name, without_mark}
 use Rattle.pr_top.specs.pr_words.Variables.{same_name, with_variable}
 use Rattle.pr_top.specs.pr_words.Reading.{accepted, broken_at, has_zero, line_of, or_twice, reading_of, setting_of}
-use Rattle.pr_top.specs.pr_words.Steps.{Front, added, calm_alone_in, case_alone_in, finished, front_by, front_of, is_again_in, next_value, options_in, so_far_of, step_of, with_front, with_setting}
+use Rattle.pr_top.specs.pr_words.Steps.{Front, added, calm_alone_in, case_alone_in, finished, front_by, front_of, is_again_in, loose_alone_in, next_value, options_in, so_far_of, step_of, with_front, with_setting}
 use Rattle.pr_top.proofs.pr_words.ReadLemmas.{Reached, reached_command, reached_end, reached_fault, reached_first, reached_more}
 use Rattle.pr_top.proofs.pr_words.SoundLemmas.{answer_is_sound}
 use Rattle.pr_top.specs.kr_tree.Lawful.{AreBytes}
@@ -157,7 +157,8 @@ longs-give word =
     pick Gives (bytes_eq word (codes "--env")) _ _ (λ value are. tested (is_variable value) _ BadEnv (λ place s is. record { root = is.root; binds = is.binds; directory = is.directory; variables = with-variable-is value s.variables are is.variables }))
     (pick Gives (bytes_eq word (codes "--turns")) _ _ (λ value are. any-mapped (turns_of value) _ BadNumber (λ n place s is. record { root = is.root; binds = is.binds; directory = is.directory; variables = is.variables }))
     (pick Gives (bytes_eq word (codes "--schedule")) _ _ (λ value are. any-mapped (schedule_of value) _ BadSchedule (λ slots place s is. record { root = is.root; binds = is.binds; directory = is.directory; variables = is.variables }))
-    (pick Gives (bytes_eq word (codes "--case")) _ _ (λ value are. any-mapped (case_of value) _ BadNumber (λ n place s is. record { root = is.root; binds = is.binds; directory = is.directory; variables = is.variables })) (renamed-give word))))
+    (pick Gives (bytes_eq word (codes "--loose")) _ _ (λ value are. any-mapped (schedule_of value) _ BadSchedule (λ slots place s is. record { root = is.root; binds = is.binds; directory = is.directory; variables = is.variables }))
+    (pick Gives (bytes_eq word (codes "--case")) _ _ (λ value are. any-mapped (case_of value) _ BadNumber (λ n place s is. record { root = is.root; binds = is.binds; directory = is.directory; variables = is.variables })) (renamed-give word)))))
 
 -- ---- an option in front
 
@@ -229,14 +230,15 @@ unbroken (Some n) why r is = tt
 
 finished-are : (s : SoFar) (n : ℕ) (command : List (List ℕ)) → IsByteSoFar s → AreAllBytes command → IfOk (finished s n command) AreOfBytes
 finished-are s n command is all =
-    unbroken (case_alone_in s n command) CaseAlone (broken_at (calm_alone_in s) CalmAlone (Ok (options_in s command)))
-    (unbroken (calm_alone_in s) CalmAlone (Ok (options_in s command)) (record {
+    unbroken (case_alone_in s n command) CaseAlone (broken_at (calm_alone_in s) CalmAlone (broken_at (loose_alone_in s) LooseAlone (Ok (options_in s command))))
+    (unbroken (calm_alone_in s) CalmAlone (broken_at (loose_alone_in s) LooseAlone (Ok (options_in s command)))
+    (unbroken (loose_alone_in s) LooseAlone (Ok (options_in s command)) (record {
       root = or-default s.root (codes "/") is.root slash-is;
       binds = is.binds;
       cwd = or-default s.directory (codes "/") is.directory slash-is;
       env = is.variables;
       command = all;
-    }))
+    })))
 
 abbrev IsRead : Read → Type 0
 IsRead r = IfOk r AreOfBytes

@@ -1,5 +1,5 @@
 -- The same words and sources on both machines: what they begin with a tracer is told as what they begin over mounts.
-use Rattle.std.specs.Prelude.{◌≡◌, ℕ, Bool, true, false, List, None, Result, Ok, Err}
+use Rattle.std.specs.Prelude.{◌≡◌, ℕ, Bool, true, false, List, [], None, Result, Ok, Err}
 use Rattle.law_starts.specs.kr_calm.Calm.{broken_at_start}
 use Rattle.pr_top.specs.kr_mounts.MountTable.{Refusal}
 use Rattle.pr_top.specs.kr_view.View.{Row}
@@ -12,7 +12,7 @@ use Rattle.pr_top.specs.pr_words.declared.options.Options.{Options}
 use Rattle.law_starts.specs.Starts.{beginning_reach}
 use Rattle.law_machines.specs.Given.{AreGiven, settled_in}
 use Rattle.law_machines.specs.Agreeing.{IsCalm}
-use Rattle.pr_top.specs.Opening.{Begun, Both, Mounts, Started, Traced, begun, launch_of, opening, report, watch_for}
+use Rattle.pr_top.specs.Opening.{Begun, Both, Loosely, Mounts, Started, Traced, begun, launch_of, opening, report, watch_for}
 
 -- ---- the same on either machine
 
@@ -25,6 +25,7 @@ options_on native o = record {
   env = o.env;
   turns = o.turns;
   schedule = o.schedule;
+  loose = o.loose;
   native = native;
   calm = o.calm;
   case = o.case;
@@ -41,10 +42,10 @@ over_mounts a = begun (asked_on true a)
 abbrev pub with_tracer : Asked → Result Begun Answer
 with_tracer a = begun (asked_on false a)
 
--- words that ask for no generated case, and not for mounts, begin with a tracer
+-- words that ask for no generated case, not for mounts and not for single steps begin with a tracer, turn by turn
 abbrev pub WordsBeginTraced : Type 0
 WordsBeginTraced =
-    (words : List (List ℕ)) (tree elf input : List ℕ) (o : Options) (a : Asked) → asked words ≡ Ok o → read_asked o tree elf input ≡ Ok a → o.case ≡ None → o.native ≡ false
+    (words : List (List ℕ)) (tree elf input : List ℕ) (o : Options) (a : Asked) → asked words ≡ Ok o → read_asked o tree elf input ≡ Ok a → o.case ≡ None → o.native ≡ false → o.loose ≡ []
     → opening words tree elf input ≡ with_tracer a
 
 -- ---- what is told of them
@@ -53,6 +54,7 @@ WordsBeginTraced =
 abbrev pub IsCalmRun : Plan → Started → Type 0
 IsCalmRun plan (Mounts table m) = IsCalm plan table m
 IsCalmRun plan (Traced m) = ⊥
+IsCalmRun plan (Loosely met m) = ⊥
 IsCalmRun plan (Both n m table k) = ⊥
 
 -- a start whose walks over mounts break no calm rule

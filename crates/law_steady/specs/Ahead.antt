@@ -1,6 +1,7 @@
 -- Whether a call alters the shape of the tree, and the bytes of files, told before it is carried out: it does where it answers a number, and a call that
--- answers an error, waits or ends its caller alters neither. Of a write the bytes aren't told ahead.
+-- answers an error, waits or ends its caller alters neither. Of a write the bytes aren't told ahead, but by its own changes.
 use Rattle.std.specs.Prelude.{◌≡◌, ℕ, ◌%◌, ◌==◌, ◌&&◌, Bool, true, false, List, [], ◌∷◌, ℤ, pos, negsuc, if◌then◌else◌}
+use Rattle.std.specs.List.{list_any}
 use Rattle.std.specs.Option.{option_and_then, option_map_or}
 use Rattle.law_lawful.specs.rv_mem.Actions.{carried_out}
 use Rattle.law_lawful.specs.rv_mem.Memory.{Memory}
@@ -40,6 +41,12 @@ abbrev pub IsNoWrite : Request → Type 0
 IsNoWrite (call.Write fd buf n) = ⊥
 IsNoWrite (call.Writev fd list count) = ⊥
 IsNoWrite _ = Unit {0}
+
+-- one that is
+abbrev pub IsWrite : Request → Type 0
+IsWrite (call.Write fd buf n) = Unit {0}
+IsWrite (call.Writev fd list count) = Unit {0}
+IsWrite _ = ⊥
 
 -- of what is open under a descriptor
 abbrev pub of_open : Known → ℤ → (Opened (Unit {0}) → Bool) → Bool
@@ -149,3 +156,9 @@ pub record IsForetold {M : Type 0} (mounts : Mounts M) (pid : ℕ) (s : State M 
 
 abbrev pub CallsAreForetold : Type 0 → Type 0
 CallsAreForetold M = (mounts : Mounts M) (pid : ℕ) (s : State M Image) (r : Request) (seen : Seen) (k : Known) (m : Memory) → IsNoExec r → IsForetold mounts pid s r seen k m
+
+-- of a write the bytes are told by its own changes: they alter some where one of them does on the tree that was there before them all
+abbrev pub WritesAreFound : Type 0 → Type 0
+WritesAreFound M =
+    (mounts : Mounts M) (pid : ℕ) (s : State M Image) (r : Request) (seen : Seen) (k : Known) (m : Memory) → IsWrite r
+    → passes_along alters_bytes_of mounts pid s (replied pid r seen k m) ≡ list_any (alters_bytes_of s.tree) (replied pid r seen k m)

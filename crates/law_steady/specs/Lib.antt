@@ -9,7 +9,6 @@ pub use Rattle.law_lawful.specs.kr_model as kr_model
 pub mod Steady
 pub mod TextSteady
 pub mod NamesLast
-pub mod Fronts
 pub mod Exact
 pub mod Calls
 pub mod Along

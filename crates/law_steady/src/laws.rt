@@ -1,10 +1,9 @@
 //! Laws of steady walks, each carried by a function that does nothing.
-ghost use Rattle.law_steady.specs.Ahead.{CallsAreForetold};
+ghost use Rattle.law_steady.specs.Ahead.{CallsAreForetold, WritesAreFound};
 ghost use Rattle.law_steady.specs.Along.{ShapeIsToldAlong, ShapeStaysAlong};
 ghost use Rattle.law_steady.specs.Bytes.{BytesAreTold, BytesAreToldAlong};
 ghost use Rattle.law_steady.specs.Calls.{CallsAlterOnce, CallsLeaveBytes, CallsLeaveShape, ProgramsLeaveBoth};
 ghost use Rattle.law_steady.specs.Exact.{LessIsTold, NamesAreTexts, ShapeIsTold};
-ghost use Rattle.law_steady.specs.Fronts.{FrontsAreSteady};
 ghost use Rattle.law_steady.specs.NamesLast.{HostNamesLast};
 ghost use Rattle.law_steady.specs.Steady.{SteadyPeeksLast, SteadyWalksLast};
 ghost use Rattle.law_steady.specs.TextSteady.{SteadyKeysLast};
@@ -28,11 +27,6 @@ pub fn steady_keys_last<M, N, X, Y>()
 /// Directories have the same host names in trees of one shape.
 pub fn host_names_last<M, N, X, Y>()
     ensures { HostNamesLast M N X Y }
-{}
-
-/// The directory above a steady host path is steady, by its own text and looked up in itself.
-pub fn fronts_are_steady<M, X>()
-    ensures { FrontsAreSteady M X }
 {}
 
 /// An inode has a name exactly where a text names it.
@@ -106,6 +100,11 @@ pub fn programs_are_told<M>()
 /// number it alters what was told, and else neither.
 pub fn calls_are_foretold<M>()
     ensures { CallsAreForetold M }
+{}
+
+/// Of a write that is told by its own changes: it alters the bytes of files where one of them does on the tree before them all.
+pub fn writes_are_found<M>()
+    ensures { WritesAreFound M }
 {}
 
 /// A tree that is left as it is has its shape, and its files have their bytes.

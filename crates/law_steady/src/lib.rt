@@ -10,8 +10,7 @@
 //! and the first bytes where the bytes of files stay too (`steady_peeks_last`).
 //!
 //! So a key, which is a base, a path and a mode, whose text walk looks at steady host paths alone has the same walk and the same answer of a
-//! tracer's walker in every such state, whatever the tags, and stays such a key (`steady_keys_last`; `text_walks_agree` of pt_canon). In front of a
-//! steady host path all is steady: the directory above it, and that directory looked up in itself (`fronts_are_steady`).
+//! tracer's walker in every such state, whatever the tags, and stays such a key (`steady_keys_last`; `text_walks_agree` of pt_canon).
 //!
 //! A directory has the same host name in trees of one shape, and so has what a slot holds as long as it is a directory in both or in neither
 //! (`host_names_last`).
@@ -33,8 +32,9 @@
 //! the shape leave it, and the user, whatever else is known of the state (`shape_stays_along`).
 //!
 //! Both are told before a call is carried out, too, but for the bytes of a write: a call that answers a number alters what was told of it, and any other
-//! alters neither (`calls_are_foretold`). A tree that is left as it is has both still, and so it has behind the end of a process and behind changes
-//! none of which can alter either (`same_trees_have_both`, `ends_leave_both`, `quiet_changes_leave_both`).
+//! alters neither (`calls_are_foretold`); of a write its own changes tell (`writes_are_found`). A tree that is left as it is has both still, and so it
+//! has behind the end of a process and behind changes none of which can alter either (`same_trees_have_both`, `ends_leave_both`,
+//! `quiet_changes_leave_both`).
 //!
 //! The reads of the first bytes for scripts, and names of descriptors, are no part of a key.
 #![tactic(auto)]

@@ -119,6 +119,10 @@ abbrev pub text_of : List (List ℕ) → List ℕ
 text_of [] = slash ∷ []
 text_of (name ∷ names) = below_root (name ∷ names)
 
+-- the path of a directory itself, looked up in it: who finds it may search the directory
+abbrev pub itself_in : List (List ℕ) → List ℕ
+itself_in names = below_root names ++ slash ∷ dot
+
 -- the path of a name in front of which a text stands, with a slash behind it or without
 abbrev pub name_path : List (List ℕ) → List ℕ → Bool → List ℕ
 name_path names name behind = below_root names ++ slash ∷ (name ++ (if behind then slash ∷ [] else []))

@@ -1,6 +1,7 @@
 -- What a tracer is told by the kernel that runs its process, as functions of what it asks.
-use Rattle.std.specs.Prelude.{ℕ, ◌≡◌, ◌≢◌, Bool, true, List, Option, Result, Ok, Err, IfSome}
-use Rattle.pr_base.specs.Texts.{IsText}
+use Rattle.std.specs.Prelude.{ℕ, ◌≡◌, ◌≢◌, Bool, true, List, ◌∷◌, Option, Result, Ok, Err, IfSome}
+use Rattle.pr_base.specs.Paths.{AreParts, itself_in, text_of}
+use Rattle.pr_base.specs.Texts.{IsText, Text}
 use Rattle.pr_base.specs.declared.errno.Errno.{Errno}
 use Rattle.pr_base.specs.declared.peeks.BaseKind.{BaseKind}
 use Rattle.pr_base.specs.declared.peeks.PeekFault.{PeekFault}
@@ -28,6 +29,12 @@ IsPeeked answer (Ok x) = answer ≡ Ok x
 IsPeeked answer (Err (fault.Err e)) = answer ≡ Err e
 IsPeeked answer (Err fault.NoMemory) = Unit {0}
 
+-- whether the process directory is unmet still is noted, but for want of memory
+abbrev pub IsNoted : {T : Type 0} → (after new : Bool) → Result T PeekFault → Type 0
+IsNoted after new (Ok x) = new ≡ after
+IsNoted after new (Err (fault.Err e)) = new ≡ after
+IsNoted after new (Err fault.NoMemory) = Unit {0}
+
 -- a name that is there is the bytes of a text
 pub record NamesAreTexts (peeked : Peeked) : Type 0 where
   pub base : (pid fd : ℕ) → IfSome (peeked.base_name pid fd) IsText
@@ -37,3 +44,8 @@ pub record NamesAreTexts (peeked : Peeked) : Type 0 where
 -- what stands at a steady host path is no link of the process directory
 abbrev pub SteadyIsNoJump : Peeked → Type 0
 SteadyIsNoJump peeked = (host : List ℕ) → peeked.steady host ≡ true → peeked.kind host ≢ Ok Jump
+
+-- what stands in front of a steady host path is steady: the directory above it, and that directory looked up in itself
+abbrev pub FrontsAreSteady : Peeked → Type 0
+FrontsAreSteady peeked =
+    (name : List ℕ) (host : Text) → AreParts (name ∷ host) → peeked.steady (text_of (name ∷ host)) ≡ true → (peeked.steady (text_of host) ≡ true) × (peeked.steady (itself_in host) ≡ true)

@@ -46,11 +46,12 @@ pub enum BaseKind {
 }
 
 /// What a tracer may ask of the kernel in the name of the process that made a call. A host path is one from
-/// the root, and its last link isn't followed. No call changes what the calls answer.
+/// the root, and its last link isn't followed. No call changes what the calls answer; at most it is noted that a walk
+/// looked up a name in the process directory.
 pub trait Peeks {
-    ghost use Rattle.std.specs.Prelude.{◌≡◌, IsTrue, IfOk};
+    ghost use Rattle.std.specs.Prelude.{◌≡◌, ◌&&◌, Bool, IsTrue, IfOk};
     ghost use Rattle.pr_base.specs.Paths.{is_absolute};
-    ghost use Rattle.pr_base.specs.Peeks.{Peeked, IsPeeked, NamesAreTexts, SteadyIsNoJump};
+    ghost use Rattle.pr_base.specs.Peeks.{Peeked, FrontsAreSteady, IsNoted, IsPeeked, NamesAreTexts, SteadyIsNoJump};
 
     /// What the kernel answers.
     ghost peeked: { Self → Peeked };
@@ -60,11 +61,15 @@ pub trait Peeks {
 
     ghost kept: { Self → Kept };
 
+    /// Whether the calls looked up no name in the process directory so far. That is all that a call may change.
+    ghost unmet: { Self → Bool };
+
     /// The kind of what a host path leads to. It fails as the walk there does.
     fn kind(&mut self, host: &[u8]) -> Result<PeekKind, PeekFault>
         requires { IsTrue (is_absolute host.now) }
         ensures answer { IsPeeked ((peeked self.old).kind host.now) result }
         ensures same { peeked self.new ≡ peeked self.old }
+        ensures noted { IsNoted (unmet self.old && (peeked self.old).steady host.now) (unmet self.new) result }
         ensures rest { kept self.new ≡ kept self.old };
 
     /// The text of the link to which a host path leads: of a link of the process directory the host name of its
@@ -73,6 +78,7 @@ pub trait Peeks {
         requires { IsTrue (is_absolute host.now) }
         ensures answer { IsPeeked ((peeked self.old).link_text host.now) result }
         ensures same { peeked self.new ≡ peeked self.old }
+        ensures noted { IsNoted (unmet self.old && (peeked self.old).steady host.now) (unmet self.new) result }
         ensures rest { kept self.new ≡ kept self.old };
 
     /// The first `n` bytes of the file to which a host path leads, or all bytes of a shorter one. EACCES where it
@@ -81,19 +87,23 @@ pub trait Peeks {
         requires { IsTrue (is_absolute host.now) }
         ensures answer { IsPeeked ((peeked self.old).head host.now n) result }
         ensures same { peeked self.new ≡ peeked self.old }
+        ensures noted { IsNoted (unmet self.old && (peeked self.old).steady host.now) (unmet self.new) result }
         ensures rest { kept self.new ≡ kept self.old };
 
-    /// Whether the walk along a host path looks up no name in the process directory, wherever it ends.
+    /// Whether the walk along a host path looks up no name in the process directory, wherever it ends. This one isn't
+    /// noted.
     fn steady(&mut self, host: &[u8]) -> Result<bool, NoMemory>
         requires { IsTrue (is_absolute host.now) }
         ensures answer { IfOk result (λ steady. steady ≡ (peeked self.old).steady host.now) }
         ensures same { peeked self.new ≡ peeked self.old }
+        ensures unmet { unmet self.new ≡ unmet self.old }
         ensures rest { kept self.new ≡ kept self.old };
 
     /// What a descriptor of a process is.
     fn base_kind(&mut self, pid: u32, fd: u32) -> BaseKind
         ensures answer { result ≡ (peeked self.old).base_kind pid fd }
         ensures same { peeked self.new ≡ peeked self.old }
+        ensures unmet { unmet self.new ≡ unmet self.old }
         ensures rest { kept self.new ≡ kept self.old };
 
     /// The host name of what a descriptor of a process is open for; `None` exactly where there is none: it isn't
@@ -101,18 +111,21 @@ pub trait Peeks {
     fn base_name(&mut self, pid: u32, fd: u32) -> Result<Option<Bytes>, NoMemory>
         ensures answer { IfOk result (λ name. name ≡ (peeked self.old).base_name pid fd) }
         ensures same { peeked self.new ≡ peeked self.old }
+        ensures unmet { unmet self.new ≡ unmet self.old }
         ensures rest { kept self.new ≡ kept self.old };
 
     /// The host name of a process's working directory, if it has one.
     fn cwd_name(&mut self, pid: u32) -> Result<Option<Bytes>, NoMemory>
         ensures answer { IfOk result (λ name. name ≡ (peeked self.old).cwd_name pid) }
         ensures same { peeked self.new ≡ peeked self.old }
+        ensures unmet { unmet self.new ≡ unmet self.old }
         ensures rest { kept self.new ≡ kept self.old };
 
     /// The host name of a process's executable, if it has one.
     fn exe_name(&mut self, pid: u32) -> Result<Option<Bytes>, NoMemory>
         ensures answer { IfOk result (λ name. name ≡ (peeked self.old).exe_name pid) }
         ensures same { peeked self.new ≡ peeked self.old }
+        ensures unmet { unmet self.new ≡ unmet self.old }
         ensures rest { kept self.new ≡ kept self.old };
 
     /// A name that is there is a text of well-formed names from the root.
@@ -120,4 +133,7 @@ pub trait Peeks {
 
     /// What stands at a steady host path is no link of the process directory.
     ghost steady_is_no_jump: { (p : Self) → SteadyIsNoJump (peeked p) };
+
+    /// What stands in front of a steady host path is steady.
+    ghost fronts_are_steady: { (p : Self) → FrontsAreSteady (peeked p) };
 }

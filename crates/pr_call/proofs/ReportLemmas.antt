@@ -1,5 +1,5 @@
 -- What an answer of a report says in the words of the top call.
-use Rattle.std.proofs.Common.{◌≡◌, ◌⊎◌, inl, inr, ℕ, sym, subst, ◌∙◌}
+use Rattle.std.proofs.Common.{◌≡◌, ◌⊎◌, inl, inr, ℕ, List, sym, subst, ◌∙◌}
 use Rattle.std.specs.Prelude.{Result, Ok, Err}
 use Rattle.law_machines.specs.pr_sources.declared.answer.Answer.{Answer}
 use Rattle.law_machines.specs.pr_sources.declared.answer.Answer.TheVariants.{Ended, Deadlock, Spent, Usage, TooLong, TreeBad, BadBind, NoStart, ReadFault, WriteFault, NoMemory}
@@ -11,8 +11,13 @@ use Rattle.law_machines.specs.pr_run.Puts.{AnswersReport, Got, GotPrefix, PutsRe
 use Rattle.law_machines.specs.pr_run.declared.plan.Plan.{Plan}
 use Rattle.law_machines.specs.pr_run.declared.turns.Stop.{Stop}
 use Rattle.law_machines.specs.pr_run.declared.turns.Stop.TheVariants as stop
-use Rattle.law_machines.specs.pr_top.Opening.{Begun, Both, Mounts, OpensFrom, Started, Traced, begun_told, mounted_run, report, report_on, started_told, traced_run}
-use Rattle.pr_call.specs.Promise.{ComesBeforeRun, EndsEarly, IsReported, Passed, Refuses, TellsOpening, TellsRun}
+use Rattle.law_machines.specs.pr_run.Stepping.{StopsInSteps, TellsQuiet, loose_report}
+use Rattle.law_machines.specs.pr_io.Drawn.{Received}
+use Rattle.law_machines.specs.kr_turns.Run.{Put}
+use Rattle.law_machines.specs.kr_view.View.{plain}
+use Rattle.law_machines.specs.pr_start.TracedBeginning.{asks}
+use Rattle.law_machines.specs.pr_top.Opening.{AnswersBegun, AnswersStarted, Begun, Both, Loosely, Mounts, OpensFrom, Started, Traced, begun_told, loose_traced_run, mounted_run, report_on, started_told, traced_run}
+use Rattle.pr_call.specs.Promise.{ComesBeforeRun, EndsEarly, EndsInSteps, IsReported, Passed, Refuses, TellsOpening, TellsRun, TellsStarted}
 use Rattle.law_machines.specs.pr_top.declared.opening.Opened.{Opened}
 
 -- a report's own answer tells a run, on both machines
@@ -20,11 +25,6 @@ answer-tells : (e : Ending) (status : ℕ) → TellsRun (answer_of e status)
 answer-tells Over status = tt
 answer-tells AllWait status = tt
 answer-tells NoTurnIsLeft status = tt
-
-report-tells : (plan : Plan) (s : Started) → TellsRun (report_on plan s).answer
-report-tells plan (Mounts table m) = answer-tells (mounted_run plan table m).ending (mounted_run plan table m).machine.tally.status
-report-tells plan (Traced m) = answer-tells (traced_run plan m).ending (traced_run plan m).machine.tally.status
-report-tells plan (Both n m table k) = tt
 
 of-told : (P : Answer → Type 0) → ((status : ℕ) → P (Ended status)) → P Deadlock → P Spent → (a : Answer) → TellsRun a → P a
 of-told P ended deadlock spent (Ended status) tells = ended status
@@ -94,40 +94,33 @@ no-stop-input stop.Err e = absurd cc
 no-stop-input stop.Left e = absurd cc
 no-stop-input stop.NoMemory e = absurd cc
 
-module _ (opened : Opened) (p : Passed) {a : Answer}
-    (answers : AnswersReport (report (begun_told opened)) p.out p.err p.left a) where
-  abbrev own : Report
-  own = report (begun_told opened)
-
+module _ (own : Report) (own-tells : TellsRun own.answer) (p : Passed) {a : Answer} (answers : AnswersReport own p.out p.err p.left a) where
   abbrev Puts : Result Answer Stop → Type 0
   Puts t = PutsReport own p.out p.err p.left t
-
-  own-tells : TellsRun own.answer
-  own-tells = report-tells opened.plan (started_told opened.kind)
 
   none-of : (P : Answer → Type 0) → IsNone P own.answer → NoStop P → (t : Result Answer Stop) → Puts t → a ≡ answer_told t → P a → ⊥
   none-of P no-answer no-stop (Ok answer) puts e holds = no-answer (subst P (e ∙ puts.0) holds)
   none-of P no-answer no-stop (Err s) puts e holds = no-stop s (subst P e holds)
 
-  pub refuses-not : Refuses a → ⊥
-  refuses-not = none-of Refuses (of-told (IsNone Refuses) (λ status p. p) (λ p. p) (λ p. p) own.answer own-tells) no-stop-refuses answers.told answers.puts answers.answer_is
+  own-refuses-not : Refuses a → ⊥
+  own-refuses-not = none-of Refuses (of-told (IsNone Refuses) (λ status p. p) (λ p. p) (λ p. p) own.answer own-tells) no-stop-refuses answers.told answers.puts answers.answer_is
 
-  pub comes-after : ComesBeforeRun a → ⊥
-  comes-after = none-of ComesBeforeRun (of-told (IsNone ComesBeforeRun) (λ status p. p) (λ p. p) (λ p. p) own.answer own-tells) no-stop-before answers.told answers.puts answers.answer_is
+  own-comes-after : ComesBeforeRun a → ⊥
+  own-comes-after = none-of ComesBeforeRun (of-told (IsNone ComesBeforeRun) (λ status p. p) (λ p. p) (λ p. p) own.answer own-tells) no-stop-before answers.told answers.puts answers.answer_is
 
-  pub read-input : EndsBeforeInput a → ⊥
-  read-input = none-of EndsBeforeInput (of-told (IsNone EndsBeforeInput) (λ status p. p) (λ p. p) (λ p. p) own.answer own-tells) no-stop-early answers.told answers.puts answers.answer_is
+  own-read-input : EndsBeforeInput a → ⊥
+  own-read-input = none-of EndsBeforeInput (of-told (IsNone EndsBeforeInput) (λ status p. p) (λ p. p) (λ p. p) own.answer own-tells) no-stop-early answers.told answers.puts answers.answer_is
 
-  pub read-elf : EndsBeforeElf a → ⊥
-  read-elf = none-of EndsBeforeElf (of-told (IsNone EndsBeforeElf) (λ status p. p) (λ p. p) (λ p. p) own.answer own-tells) no-stop-before-elf answers.told answers.puts answers.answer_is
+  own-read-elf : EndsBeforeElf a → ⊥
+  own-read-elf = none-of EndsBeforeElf (of-told (IsNone EndsBeforeElf) (λ status p. p) (λ p. p) (λ p. p) own.answer own-tells) no-stop-before-elf answers.told answers.puts answers.answer_is
 
   no-write-fault : (which : Which) → NoStop (λ b. b ≡ WriteFault which) → a ≡ WriteFault which → ⊥
   no-write-fault which no-stop =
       none-of (λ b. b ≡ WriteFault which) (of-told (IsNone (λ b. b ≡ WriteFault which)) (λ status e. absurd cc) (λ e. absurd cc) (λ e. absurd cc) own.answer own-tells) no-stop answers.told answers.puts answers.answer_is
 
   -- a source is no sink
-  pub no-source-named : (a ≡ WriteFault TreeSource → ⊥) × (a ≡ WriteFault Elf → ⊥) × (a ≡ WriteFault Input → ⊥)
-  no-source-named = (no-write-fault TreeSource no-stop-tree, no-write-fault Elf no-stop-elf, no-write-fault Input no-stop-input)
+  own-no-source : (a ≡ WriteFault TreeSource → ⊥) × (a ≡ WriteFault Elf → ⊥) × (a ≡ WriteFault Input → ⊥)
+  own-no-source = (no-write-fault TreeSource no-stop-tree, no-write-fault Elf no-stop-elf, no-write-fault Input no-stop-input)
 
   stop-ends : (s : Stop) → EndsEarly (stop_answer s)
   stop-ends stop.Out = tt
@@ -175,8 +168,8 @@ module _ (opened : Opened) (p : Passed) {a : Answer}
   for-memory (Err stop.Left) puts e is = absurd cc
   for-memory (Err stop.NoMemory) puts e is = puts.0
 
-  reported : IsReported own p a
-  reported = record {
+  own-reported : IsReported own p a
+  own-reported = record {
     answered = answered-as answers.told answers.puts answers.answer_is;
     turns = λ tells. (put-as answers.told answers.puts answers.answer_is tells).0;
     listing = λ tells. (put-as answers.told answers.puts answers.answer_is tells).1;
@@ -186,5 +179,68 @@ module _ (opened : Opened) (p : Passed) {a : Answer}
     memory_stops = for-memory answers.told answers.puts answers.answer_is;
   }
 
-  pub run-told : (expected : Result Begun Answer) → OpensFrom expected (Ok opened) → TellsOpening expected p a
-  run-told expected opens = subst (λ o. TellsOpening o p a) (sym opens) reported
+-- ---- what was begun
+
+-- of a loose run, too, there is such a report
+pub record HasReport (out err left : Received) (a : Answer) : Type 0 where
+  pub own : Report
+  pub tells : TellsRun own.answer
+  pub answers : AnswersReport own out err left a
+
+pub report-of : (plan : Plan) (s : Started) (out err left : Received) (a : Answer) → AnswersStarted plan s out err left a → HasReport out err left a
+report-of plan (Mounts table m) out err left a answers = record { own = report_on plan (Mounts table m); tells = answer-tells (mounted_run plan table m).ending (mounted_run plan table m).machine.tally.status; answers = answers }
+report-of plan (Traced m) out err left a answers = record { own = report_on plan (Traced m); tells = answer-tells (traced_run plan m).ending (traced_run plan m).machine.tally.status; answers = answers }
+report-of plan (Loosely met m) out err left a answers = record {
+  own = loose_report plan (loose_traced_run plan m) answers.puts.quiet;
+  tells = answer-tells (loose_traced_run plan m).ending (loose_traced_run plan m).left.machine.tally.status;
+  answers = record { told = answers.result; puts = answers.puts.puts; answer_is = answers.answer_is };
+}
+report-of plan (Both n m table k) out err left a answers = record { own = report_on plan (Both n m table k); tells = tt; answers = answers }
+
+module _ (opened : Opened) (p : Passed) (a : Answer) (answers : AnswersBegun (begun_told opened) p.out p.err p.left a) where
+  has : HasReport p.out p.err p.left a
+  has = report-of opened.plan (started_told opened.kind) p.out p.err p.left a answers
+
+  pub refuses-not : Refuses a → ⊥
+  refuses-not = own-refuses-not has.own has.tells p has.answers
+
+  pub comes-after : ComesBeforeRun a → ⊥
+  comes-after = own-comes-after has.own has.tells p has.answers
+
+  pub read-input : EndsBeforeInput a → ⊥
+  read-input = own-read-input has.own has.tells p has.answers
+
+  pub read-elf : EndsBeforeElf a → ⊥
+  read-elf = own-read-elf has.own has.tells p has.answers
+
+  -- a source is no sink
+  pub no-source-named : (a ≡ WriteFault TreeSource → ⊥) × (a ≡ WriteFault Elf → ⊥) × (a ≡ WriteFault Input → ⊥)
+  no-source-named = own-no-source has.own has.tells p has.answers
+
+-- a loose run that stopped in its steps
+ends-in-steps : (puts : List Put) (p : Passed) (a : Answer) (t : Result Answer Stop) → a ≡ answer_told t → StopsInSteps puts p.out p.err p.left t → EndsInSteps puts p a
+ends-in-steps puts p a (Ok answer) e stops = absurd stops
+ends-in-steps puts p a (Err stop.Out) e stops = subst (EndsInSteps puts p) (sym e) stops.0.1
+ends-in-steps puts p a (Err stop.Err) e stops = subst (EndsInSteps puts p) (sym e) stops.0.1
+ends-in-steps puts p a (Err stop.Left) e stops = absurd stops.0
+ends-in-steps puts p a (Err stop.NoMemory) e stops = subst (EndsInSteps puts p) (sym e) stops.0
+
+started-told : (plan : Plan) (s : Started) (p : Passed) (a : Answer) → AnswersStarted plan s p.out p.err p.left a → TellsStarted plan s p a
+started-told plan (Mounts table m) p a answers = own-reported (report_on plan (Mounts table m)) (answer-tells (mounted_run plan table m).ending (mounted_run plan table m).machine.tally.status) p answers
+started-told plan (Traced m) p a answers = own-reported (report_on plan (Traced m)) (answer-tells (traced_run plan m).ending (traced_run plan m).machine.tally.status) p answers
+started-told plan (Both n m table k) p a answers = own-reported (report_on plan (Both n m table k)) tt p answers
+started-told plan (Loosely met m) p a answers =
+    record {
+      quiet = answers.puts.quiet;
+      reported = own-reported (loose_report plan (loose_traced_run plan m) answers.puts.quiet) (answer-tells (loose_traced_run plan m).ending (loose_traced_run plan m).left.machine.tally.status) p
+          (record { told = answers.result; puts = answers.puts.puts; answer_is = answers.answer_is });
+      line = by answers.puts.line;
+    }
+  where
+    by : StopsInSteps (loose_report plan (loose_traced_run plan m) answers.puts.quiet).puts p.out p.err p.left answers.result ⊎ TellsQuiet asks 0 plain met (loose_traced_run plan m) answers.puts.quiet
+        → EndsInSteps (loose_report plan (loose_traced_run plan m) answers.puts.quiet).puts p a ⊎ TellsQuiet asks 0 plain met (loose_traced_run plan m) answers.puts.quiet
+    by (inl stops) = inl (ends-in-steps (loose_report plan (loose_traced_run plan m) answers.puts.quiet).puts p a answers.result answers.answer_is stops)
+    by (inr is) = inr is
+
+pub run-told : (opened : Opened) (p : Passed) (a : Answer) → AnswersBegun (begun_told opened) p.out p.err p.left a → (expected : Result Begun Answer) → OpensFrom expected (Ok opened) → TellsOpening expected p a
+run-told opened p a answers expected opens = subst (λ o. TellsOpening o p a) (sym opens) (started-told opened.plan (started_told opened.kind) p a answers)

@@ -12,7 +12,7 @@ use Rattle.law_machines.specs.pr_sources.Reading.{AllAreRead, HasCause, IsListed
 use Rattle.law_machines.specs.pr_sources.Telling.{Agrees, SourcesThatTellAgree, Stage, and_told, told_asked, told_listing, told_tree}
 use Rattle.law_machines.specs.pr_sources.Within.{IsEarly, and_then}
 use Rattle.law_machines.proofs.pr_sources.TellingLemmas.{agrees_listing, agrees_then, agrees_tree, has}
-use Rattle.law_machines.specs.pr_top.Opening.{Begun, begun, opened_for, report}
+use Rattle.law_machines.specs.pr_top.Opening.{Begun, begins, opened_for, report}
 use Rattle.pr_call.specs.Promise.{ComesBeforeRun, IsAnswerOf, IsReadThrough, NoneFailed, NothingIsPut, Passed, Refuses, TellsOpening, TellsRun, opened_by}
 use Rattle.pr_call.specs.Telling.{HasToldCause, IsPromised, IsPromisedOfTold, OpensToldCalmly, PromisesHoldOfTold, told_by, told_opened_for}
 use Rattle.pr_call.proofs.TopLemmas.{early-told, no-fault-left, not-early}
@@ -73,7 +73,7 @@ module _ (law : SourcesThatTellAgree) (words : List (List ℕ)) (p : Passed) (a 
   opened-for None o f = by (f refl)
     where
       by : Same o ⊎ CutShort → Agrees (told_opened_for None o s.tree.had s.elf.had s.input.had) (opened_for None o (gave s.tree) (gave s.elf) (gave s.input)) ⊎ CutShort
-      by (inl same) = inl (agrees_then (told_asked o s.tree.had s.elf.had s.input.had) (read_asked o (gave s.tree) (gave s.elf) (gave s.input)) (λ asked. Some (begun asked)) (λ asked. begun asked) same (λ x e. refl))
+      by (inl same) = inl (agrees_then (told_asked o s.tree.had s.elf.had s.input.had) (read_asked o (gave s.tree) (gave s.elf) (gave s.input)) (λ asked. Some (begins asked)) (λ asked. begins asked) same (λ x e. refl))
       by (inr cut) = inr cut
 
   opened-same : Opened ⊎ CutShort
@@ -111,7 +111,7 @@ module _ (law : SourcesThatTellAgree) (words : List (List ℕ)) (p : Passed) (a 
           let given : Ok calm.asked_for ≡ read_asked calm.traced.options (gave s.tree) (gave s.elf) (gave s.input) = subst (λ told. Agrees told (read_asked calm.traced.options (gave s.tree) (gave s.elf) (gave s.input))) calm.traced.tells same in
           is.headline o (record {
             asked_for = calm.asked_for;
-            traced = record { options = calm.traced.options; asks = calm.traced.asks; gives = sym given; own = calm.traced.own; watched = calm.traced.watched };
+            traced = record { options = calm.traced.options; asks = calm.traced.asks; gives = sym given; own = calm.traced.own; watched = calm.traced.watched; by_turns = calm.traced.by_turns };
             opens = calm.opens;
             calm = calm.calm;
           })

@@ -1,5 +1,5 @@
 -- What the answer of an opening, and that of a report, say in the words of the top call.
-use Rattle.std.proofs.Common.{◌≡◌, ◌⊎◌, ◌∙◌, inl, inr, ℕ, List, [], refl, sym, subst}
+use Rattle.std.proofs.Common.{◌≡◌, ◌⊎◌, ◌∙◌, inl, inr, ℕ, false, List, [], refl, sym, subst}
 use Rattle.std.specs.Prelude.{Result, Ok, Err}
 use Rattle.std.proofs.lemmas.List.{append-nil}
 use Rattle.law_machines.specs.pr_io.Moves.{Gets, Stays}
@@ -11,11 +11,14 @@ use Rattle.law_machines.specs.pr_sources.declared.answer.Which.TheVariants.{Tree
 use Rattle.law_machines.specs.pr_sources.Reading.{AllAreRead, HasCause, IsReadUpTo}
 use Rattle.law_machines.specs.pr_sources.Within.{IsEarly}
 use Rattle.law_machines.specs.pr_run.Report.{Report}
-use Rattle.law_machines.specs.pr_run.Puts.{AnswersReport, PutsReport, answer_told}
+use Rattle.law_machines.specs.pr_run.Puts.{PutsReport, answer_told}
 use Rattle.law_machines.specs.pr_run.declared.turns.Stop.{Stop}
 use Rattle.law_machines.specs.pr_run.declared.turns.Stop.TheVariants as stop
-use Rattle.law_machines.specs.pr_top.Opening.{Begun, IsOfOpening, OpensFrom, begun_told, report}
-use Rattle.pr_call.specs.Promise.{ComesBeforeRun, EndsEarly, IsAnswerOf, IsReadThrough, IsRefused, IsReported, NoneFailed, NothingIsPut, Passed, Refuses, TellsOpening, TellsRun}
+use Rattle.law_machines.specs.pr_run.Stepping.{loose_report}
+use Rattle.law_machines.specs.pr_run.declared.plan.Plan.{Plan}
+use Rattle.law_machines.specs.kr_turns.Run.{Put}
+use Rattle.law_machines.specs.pr_top.Opening.{AnswersBegun, AnswersStarted, Begun, Both, IsOfOpening, Loosely, Mounts, OpensFrom, Started, Traced, begun_told, loose_traced_run, report_on, started_told}
+use Rattle.pr_call.specs.Promise.{ComesBeforeRun, EndsEarly, EndsInSteps, IsAnswerOf, IsReadThrough, IsRefused, IsReported, NoneFailed, NothingIsPut, Passed, Refuses, TellsOpening, TellsRun, TellsStarted}
 use Rattle.law_machines.specs.pr_top.declared.opening.Opened.{Opened}
 
 -- ---- kinds of answers
@@ -83,6 +86,20 @@ no-write a which is e = subst IsOfOpening e is
 gets-none : (a b : List ℕ) → Stays a b → Gets a b []
 gets-none a b kept = kept ∙ sym (append-nil a)
 
+-- an early end is one of these
+early-of : (a : Answer) → IsEarly a → (P : Answer → Type 0) → ((which : Which) → P (ReadFault which)) → P NoMemory → P a
+early-of NoMemory early P fault memory = memory
+early-of (ReadFault which) early P fault memory = fault which
+early-of (Ended status) early P fault memory = absurd early
+early-of Deadlock early P fault memory = absurd early
+early-of Spent early P fault memory = absurd early
+early-of (Usage word why) early P fault memory = absurd early
+early-of (TooLong which) early P fault memory = absurd early
+early-of (TreeBad line why) early P fault memory = absurd early
+early-of (BadBind index why) early P fault memory = absurd early
+early-of (NoStart errno) early P fault memory = absurd early
+early-of (WriteFault which) early P fault memory = absurd early
+
 -- nothing is put then
 module _ (a : Answer) (is : IsOfOpening a) (p : Passed) (none : NothingIsPut p) where
   early-report : (told : Report) → IsEarly a → IsReported told p a
@@ -99,9 +116,23 @@ module _ (a : Answer) (is : IsOfOpening a) (p : Passed) (none : NothingIsPut p) 
   refused-as : (refusal : Answer) → (a ≡ refusal) ⊎ IsEarly a → IsRefused refusal p a
   refused-as refusal answered = record { answered = answered; kind = of-opening a is; nothing = none }
 
+  early-steps : (puts : List Put) → IsEarly a → EndsInSteps puts p a
+  early-steps puts early = early-of a early (λ b. EndsInSteps puts p b) (λ which. tt)
+      (record { made = 0; out_got = gets-none p.out.before p.out.now none.out_stays; err_got = inl (gets-none p.err.before p.err.now none.err_stays) })
+
+  early-started : (plan : Plan) (s : Started) → IsEarly a → TellsStarted plan s p a
+  early-started plan (Mounts table m) early = early-report (report_on plan (Mounts table m)) early
+  early-started plan (Traced m) early = early-report (report_on plan (Traced m)) early
+  early-started plan (Both n m table k) early = early-report (report_on plan (Both n m table k)) early
+  early-started plan (Loosely met m) early = record {
+    quiet = false;
+    reported = early-report (loose_report plan (loose_traced_run plan m) false) early;
+    line = inl (early-steps (loose_traced_run plan m).puts early);
+  }
+
   pub opening-told : (expected : Result Begun Answer) → OpensFrom expected (Err a) → TellsOpening expected p a
   opening-told (Ok b) (inl e) = absurd cc
-  opening-told (Ok b) (inr early) = early-report (report b) early
+  opening-told (Ok b) (inr early) = early-started b.plan b.started early
   opening-told (Err r) (inl e) = refused-as r (inl (let same : r ≡ a = cc in sym same))
   opening-told (Err r) (inr early) = refused-as r (inr early)
 
@@ -184,17 +215,20 @@ complete-refused words p a expected cause (inl e) none = inl (subst (λ o. IsAns
 complete-refused words p a expected cause (inr early) none = no-fault-left words p a (IsAnswerOf expected a) early cause none
 
 -- a run that begins
-module _ (opened : Opened) (p : Passed) (none : NoneFailed p) (a : Answer) where
-  abbrev Puts : Result Answer Stop → Type 0
-  Puts t = PutsReport (report (begun_told opened)) p.out p.err p.left t
-
-  complete-as : (t : Result Answer Stop) → Puts t → a ≡ answer_told t → IsAnswerOf (Ok (begun_told opened)) a ⊎ (a ≡ NoMemory)
+module _ (own : Report) (p : Passed) (none : NoneFailed p) (a : Answer) where
+  complete-as : (t : Result Answer Stop) → PutsReport own p.out p.err p.left t → a ≡ answer_told t → (a ≡ own.answer) ⊎ (a ≡ NoMemory)
   complete-as (Ok answer) puts e = inl (e ∙ puts.0)
   complete-as (Err stop.Out) puts e = absurd (none.out_works puts.0)
   complete-as (Err stop.Err) puts e = absurd (none.err_works puts.0)
   complete-as (Err stop.Left) puts e = absurd (none.left_works puts.0)
   complete-as (Err stop.NoMemory) puts e = inr e
 
-  pub complete : AnswersReport (report (begun_told opened)) p.out p.err p.left a
-      → (expected : Result Begun Answer) → OpensFrom expected (Ok opened) → IsAnswerOf expected a ⊎ (a ≡ NoMemory)
-  complete answers expected opens = subst (λ o. IsAnswerOf o a ⊎ (a ≡ NoMemory)) (sym opens) (complete-as answers.told answers.puts answers.answer_is)
+complete-started : (plan : Plan) (s : Started) (p : Passed) → NoneFailed p → (a : Answer) → AnswersStarted plan s p.out p.err p.left a → (a ≡ (report_on plan s).answer) ⊎ (a ≡ NoMemory)
+complete-started plan (Mounts table m) p none a answers = complete-as (report_on plan (Mounts table m)) p none a answers.told answers.puts answers.answer_is
+complete-started plan (Traced m) p none a answers = complete-as (report_on plan (Traced m)) p none a answers.told answers.puts answers.answer_is
+complete-started plan (Both n m table k) p none a answers = complete-as (report_on plan (Both n m table k)) p none a answers.told answers.puts answers.answer_is
+complete-started plan (Loosely met m) p none a answers = complete-as (loose_report plan (loose_traced_run plan m) answers.puts.quiet) p none a answers.result answers.puts.puts answers.answer_is
+
+pub complete : (opened : Opened) (p : Passed) → NoneFailed p → (a : Answer) → AnswersBegun (begun_told opened) p.out p.err p.left a
+    → (expected : Result Begun Answer) → OpensFrom expected (Ok opened) → IsAnswerOf expected a ⊎ (a ≡ NoMemory)
+complete opened p none a answers expected opens = subst (λ o. IsAnswerOf o a ⊎ (a ≡ NoMemory)) (sym opens) (complete-started opened.plan (started_told opened.kind) p none a answers)

@@ -4,11 +4,11 @@ use Rattle.std.specs.Prelude.{is_some, if◌then◌else◌}
 use Rattle.std.specs.List.{position}
 use Rattle.std.specs.Option.{option_map}
 use Rattle.law_machines.specs.pr_words.declared.fault.Why.{Why}
-use Rattle.law_machines.specs.pr_words.declared.fault.Why.TheVariants.{CalmAlone, CaseAlone, ZeroByte}
+use Rattle.law_machines.specs.pr_words.declared.fault.Why.TheVariants.{CalmAlone, CaseAlone, LooseAlone, ZeroByte}
 use Rattle.law_machines.specs.pr_words.declared.fault.WordsFault.{WordsFault}
 use Rattle.law_machines.specs.pr_words.declared.options.Options.{Options}
 use Rattle.law_machines.specs.pr_words.Meaning.{calm_in, latest, native_in, options_of, or_earlier}
-use Rattle.law_machines.specs.pr_words.Reading.{Command, Given, Line, Then, accepted, broken_at, calm_alone, case_alone, ended, first_place, has_zero, is_calm, line_of, or_else, place_if, reading_of, settings_of, told}
+use Rattle.law_machines.specs.pr_words.Reading.{Command, Given, Line, Then, accepted, broken_at, calm_alone, case_alone, ended, first_place, has_zero, is_calm, line_of, loose_alone, or_else, place_if, reading_of, settings_of, told}
 use Rattle.law_machines.proofs.pr_words.SoundLemmas.{accepted-then, accepted_step, go_on}
 use Rattle.law_machines.specs.pr_sources.Asking.{asked, asked_of}
 
@@ -35,9 +35,10 @@ same_options x y e = cc
 
 ended_quiet : (given : List Given) (n : ℕ) (command : List (List ℕ)) (o : Options) → ended given n command ≡ Ok o → o.native ≡ false → o.calm ≡ false
 ended_quiet given n command o e watched =
-    let own = standing (case_alone given n command) CaseAlone (broken_at (calm_alone given) CalmAlone (Ok (options_of (settings_of given) command))) o e in
-    let calm = standing (calm_alone given) CalmAlone (Ok (options_of (settings_of given) command)) o own.1 in
-    let same : options_of (settings_of given) command ≡ o = same_options (options_of (settings_of given) command) o calm.1 in
+    let own = standing (case_alone given n command) CaseAlone (broken_at (calm_alone given) CalmAlone (broken_at (loose_alone given) LooseAlone (Ok (options_of (settings_of given) command)))) o e in
+    let calm = standing (calm_alone given) CalmAlone (broken_at (loose_alone given) LooseAlone (Ok (options_of (settings_of given) command))) o own.1 in
+    let loose = standing (loose_alone given) LooseAlone (Ok (options_of (settings_of given) command)) o calm.1 in
+    let same : options_of (settings_of given) command ≡ o = same_options (options_of (settings_of given) command) o loose.1 in
     let native : is_some (latest native_in (settings_of given)) ≡ false = ap (λ (o : Options). o.native) same ∙ watched in
     let first : first_place is_calm given ≡ None = subst (λ b. (if b then None else first_place is_calm given) ≡ None) native calm.0 in
     sym (ap (λ (o : Options). o.calm) same) ∙ none_calm given first

@@ -1,6 +1,6 @@
 -- The same words and bytes over mounts: what they open there, where that is calm. Without `--native` the public call answers and puts what is
 -- told of it.
-use Rattle.std.specs.Prelude.{◌≡◌, ℕ, false, List, None, Result, Ok, Err}
+use Rattle.std.specs.Prelude.{◌≡◌, ℕ, false, List, [], None, Result, Ok, Err}
 use Rattle.law_machines.specs.pr_io.Drawn.{gave}
 use Rattle.law_machines.specs.kr_view.View.{Row}
 use Rattle.law_machines.specs.Given.{settled_in}
@@ -13,13 +13,14 @@ use Rattle.law_machines.specs.pr_top.Opening.{Begun}
 use Rattle.law_machines.specs.Openings.{IsCalmRun, IsCalmStart, over_mounts}
 use Rattle.pr_call.specs.Promise.{Passed, TellsOpening}
 
--- what words ask for of the bytes of sources: not for a generated case, and not for mounts
+-- what words ask for of the bytes of sources: not for a generated case, not for mounts, and not for single steps
 pub record AsksTraced (words : List (List ℕ)) (tree elf input : List ℕ) (a : Asked) : Type 0 where
   pub options : Options
   pub asks : asked words ≡ Ok options
   pub gives : read_asked options tree elf input ≡ Ok a
   pub own : options.case ≡ None
   pub watched : options.native ≡ false
+  pub by_turns : options.loose ≡ []
 
 -- a run that breaks no calm rule; or a refusal: of bindings that don't settle, or of a start whose walks break none
 abbrev pub IsCalmOpening : Asked → Result Begun Answer → Type 0

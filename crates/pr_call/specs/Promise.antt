@@ -1,5 +1,5 @@
 -- The words in which the top call says what it answers, what the sources gave, and what the sinks got.
-use Rattle.std.specs.Prelude.{◌≡◌, ◌⊎◌, ℕ, List, Result, Ok, Err}
+use Rattle.std.specs.Prelude.{◌≡◌, ◌⊎◌, ℕ, Bool, List, Result, Ok, Err}
 use Rattle.law_machines.specs.pr_io.Drawn.{Received, SinkFailed, SourceFailed, drawn, gave, received}
 use Rattle.law_machines.specs.pr_io.declared.sink.Sink.{Ghosts as OfSink}
 use Rattle.law_machines.specs.pr_io.declared.source.Source.{Ghosts as OfSource}
@@ -10,7 +10,12 @@ use Rattle.law_machines.specs.pr_sources.Reading.{AllAreRead, IsReadUpTo, Source
 use Rattle.law_machines.specs.pr_sources.Within.{IsEarly}
 use Rattle.law_machines.specs.pr_run.Report.{Report}
 use Rattle.law_machines.specs.pr_run.Puts.{Got, GotNone, GotPrefix, PutsTurns, StopsBetween, StopsInCalm, StopsInErr, StopsInOut}
-use Rattle.law_machines.specs.pr_top.Opening.{Begun, opening, report}
+use Rattle.law_machines.specs.pr_run.Stepping.{TellsQuiet, loose_report}
+use Rattle.law_machines.specs.pr_run.declared.plan.Plan.{Plan}
+use Rattle.law_machines.specs.kr_turns.Run.{Put}
+use Rattle.law_machines.specs.kr_view.View.{plain}
+use Rattle.law_machines.specs.pr_start.TracedBeginning.{asks}
+use Rattle.law_machines.specs.pr_top.Opening.{Begun, Loosely, Started, loose_traced_run, opening, report, report_on}
 
 -- what passed in a call: what the sources gave, and what the sinks got
 pub record Passed : Type 0 where
@@ -92,9 +97,28 @@ pub record IsRefused (refusal : Answer) (p : Passed) (answer : Answer) : Type 0 
   pub kind : ComesBeforeRun answer ⊎ (answer ≡ NoMemory)
   pub nothing : NothingIsPut p
 
+-- it ended before the last of its steps was made and put
+abbrev pub EndsInSteps : List Put → Passed → Answer → Type 0
+EndsInSteps puts p (WriteFault Out) = StopsInOut puts p.out p.err
+EndsInSteps puts p (WriteFault ErrSink) = StopsInErr puts p.out p.err
+EndsInSteps puts p NoMemory = StopsBetween puts p.out p.err
+EndsInSteps puts p (ReadFault which) = Unit {0}
+EndsInSteps puts p answer = ⊥
+
+-- this report of a loose run, with a line that is so of its steps, unless none of the line was due yet
+pub record IsReportedLoosely (told : Bool → Report) (Is : Bool → Type 0) (p : Passed) (answer : Answer) : Type 0 where
+  pub quiet : Bool
+  pub reported : IsReported (told quiet) p answer
+  pub line : EndsInSteps (told quiet).puts p answer ⊎ Is quiet
+
+-- what begins is told by its report
+abbrev pub TellsStarted : Plan → Started → Passed → Answer → Type 0
+TellsStarted plan (Loosely met m) p answer = IsReportedLoosely (loose_report plan (loose_traced_run plan m)) (TellsQuiet asks 0 plain met (loose_traced_run plan m)) p answer
+TellsStarted plan s p answer = IsReported (report_on plan s) p answer
+
 -- what is opened is told: the report of the run that begins, or the refusal
 abbrev pub TellsOpening : Result Begun Answer → Passed → Answer → Type 0
-TellsOpening (Ok b) p answer = IsReported (report b) p answer
+TellsOpening (Ok b) p answer = TellsStarted b.plan b.started p answer
 TellsOpening (Err refusal) p answer = IsRefused refusal p answer
 
 -- what is told is that of what the bytes that were given open

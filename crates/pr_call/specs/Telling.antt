@@ -1,5 +1,5 @@
 -- What the promises say of sources that tell what they have left: the opening of those bytes, where it is known, is answered and put.
-use Rattle.std.specs.Prelude.{◌≡◌, ◌⊎◌, ℕ, false, List, Option, Some, None, IfOk, IfSome, Result, Ok, Err}
+use Rattle.std.specs.Prelude.{◌≡◌, ◌⊎◌, ℕ, false, List, [], Option, Some, None, IfOk, IfSome, Result, Ok, Err}
 use Rattle.std.specs.Io.KnownBytes.{IsAtEnd}
 use Rattle.law_machines.specs.kr_inode.declared.user.User.{User}
 use Rattle.law_machines.specs.kr_tree.Tree.{Tree}
@@ -13,7 +13,7 @@ use Rattle.law_machines.specs.pr_sources.Asking.{asked}
 use Rattle.law_machines.specs.pr_sources.Reading.{AreDrawn, HasCause, IsPast, IsWanted, ReadsSources, Sources}
 use Rattle.law_machines.specs.pr_sources.Telling.{Stage, and_told, told_asked, told_listing, told_tree}
 use Rattle.law_machines.specs.pr_sources.declared.reading.Asked.{Asked}
-use Rattle.law_machines.specs.pr_top.Opening.{Begun, begun, case_begun, report}
+use Rattle.law_machines.specs.pr_top.Opening.{Begun, begins, case_begun, report}
 use Rattle.law_machines.specs.Openings.{over_mounts}
 use Rattle.pr_call.specs.Headline.{Headline, IsCalmOpening}
 use Rattle.pr_call.specs.Promise.{ComesBeforeRun, IsComplete, IsReadThrough, IsTold, NoneFailed, NothingIsPut, Passed, Refuses, TellsOpening, TellsRun, opened_by}
@@ -22,7 +22,7 @@ use Rattle.pr_call.specs.Promise.{ComesBeforeRun, IsComplete, IsReadThrough, IsT
 
 abbrev pub told_opened_for : Option ℕ → Options → Option (List ℕ) → Option (List ℕ) → Option (List ℕ) → Stage Begun
 told_opened_for (Some n) options tree elf input = Some (case_begun n options)
-told_opened_for None options tree elf input = and_told (told_asked options tree elf input) (λ asked. Some (begun asked))
+told_opened_for None options tree elf input = and_told (told_asked options tree elf input) (λ asked. Some (begins asked))
 
 abbrev pub told_opening : List (List ℕ) → Option (List ℕ) → Option (List ℕ) → Option (List ℕ) → Stage Begun
 told_opening words tree elf input = and_told (Some (asked words)) (λ options. told_opened_for options.case options tree elf input)
@@ -31,13 +31,14 @@ told_opening words tree elf input = and_told (Some (asked words)) (λ options. t
 abbrev pub told_by : List (List ℕ) → Sources → Stage Begun
 told_by words s = told_opening words s.tree.had s.elf.had s.input.had
 
--- what words ask for of sources that tell: not for a generated case, and not for mounts
+-- what words ask for of sources that tell: not for a generated case, not for mounts, and not for single steps
 pub record AsksToldTraced (words : List (List ℕ)) (tree elf input : Option (List ℕ)) (a : Asked) : Type 0 where
   pub options : Options
   pub asks : asked words ≡ Ok options
   pub tells : told_asked options tree elf input ≡ Some (Ok a)
   pub own : options.case ≡ None
   pub watched : options.native ≡ false
+  pub by_turns : options.loose ≡ []
 
 -- of the same this is opened over mounts, calmly
 pub record OpensToldCalmly (words : List (List ℕ)) (tree elf input : Option (List ℕ)) (opened : Result Begun Answer) : Type 0 where

@@ -19,6 +19,8 @@ use std::alloc::Global;
 /// ask for, starts the command over them, and runs it, turn after turn. What each turn puts out goes to `out` and `err`, with `--calm` a last
 /// line on `err` tells if the run was calm, and last the canonical listing of the tree that is left goes to `left`.
 ///
+/// With `--loose` the command runs step by step, the bytes of each step go to `out` and `err`, and a last line on `err` tells if the run was quiet.
+///
 /// With `--case` it reads no source, and runs both machines on the generated case of that number. It puts a summary of the watched run to
 /// `out`, the listing of the tree that this run left to `left`, and answers with status 0 exactly where both outcomes are equal, else 1.
 ///
@@ -36,7 +38,7 @@ pub fn proot<T: Source, E: Source, I: Source, O: Sink, R: Sink, L: Sink>(
 ) -> Answer
     requires { length words.now < 2 ^ 32 }
 
-    // The headline: without `--native`, what is answered and put is what the same words and bytes open over mounts, where that is calm: the report
+    // The headline: without `--native` and `--loose`, what is answered and put is what the same words and bytes open over mounts, where that is calm: the report
     // of a run that breaks no calm rule, or a refusal, of bindings that don't settle or of a start whose walks break none.
     ensures headline { Headline (map string_bytes words.now) (passed T.Source tree.old tree.new E.Source elf.old elf.new I.Source input.old input.new
         O.Sink out.old out.new R.Sink err.old err.new L.Sink left.old left.new) result }

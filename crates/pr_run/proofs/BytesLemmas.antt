@@ -3,7 +3,7 @@ use Rattle.std.proofs.Common.{◌≡◌, inl, inr, ℕ, zero, suc, ◌≤◌, Li
 use Rattle.std.proofs.lemmas.List.{append-nil}
 use Rattle.pr_sources.specs.pr_io.Faults.{Rose}
 use Rattle.pr_sources.specs.pr_io.Moves.{Gets, GetsPrefix, Stays}
-use Rattle.kr_core.specs.kr_turns.Run.{Put}
+use Rattle.kr_loose.specs.kr_turns.Run.{Put}
 use Rattle.pr_run.specs.Report.{gathered}
 
 -- ---- what a sink got

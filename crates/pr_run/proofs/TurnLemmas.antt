@@ -1,15 +1,13 @@
 -- A call for a turn of a kernel, by what its machine can do.
-use Rattle.std.proofs.Common.{◌≡◌, ◌≤◌, inr, ℕ, suc, Bool, true, List, [], ◌∷◌, Option, Some, None, refl, sym, subst, ◌∙◌, slice_get}
+use Rattle.std.proofs.Common.{◌≡◌, inr, ℕ, Bool, List, [], ◌∷◌, Option, Some, None, refl, subst, slice_get}
 use Rattle.std.specs.List.{filter}
 use Rattle.pr_sources.specs.kr_model.State.{Image, Process}
-use Rattle.kr_core.specs.kr_turns.Steps.{goes_on, picked_process}
-use Rattle.kr_core.specs.kr_view.View.{Row}
-use Rattle.kr_core.specs.kr_stops.Watching.{Watching}
-use Rattle.kr_core.specs.Kernel.{Clears, HasRun, Kernel, machine_by}
-use Rattle.kr_core.specs.kr_turns.Run.{Deadlock, Ending, Over, Put, after_put, ending_of, if_any}
-use Rattle.kr_core.specs.kr_turns.Turn.{Machine}
+use Rattle.kr_loose.specs.kr_turns.Steps.{goes_on, picked_process}
+use Rattle.kr_loose.specs.kr_core.Kernel.{Clears, Kernel, machine_by}
+use Rattle.kr_loose.specs.kr_turns.Run.{Deadlock, Ending, Over, Put, after_put, ending_of, if_any}
+use Rattle.kr_loose.specs.kr_turns.Turn.{Machine}
 use Rattle.pr_sources.specs.pr_io.Drawn.{Received}
-use Rattle.pr_run.specs.Puts.{Continues, StopsMaking, StopsTurn}
+use Rattle.pr_run.specs.Puts.{StopsMaking, StopsTurn}
 use Rattle.pr_run.specs.declared.turns.Stop.{Stop}
 use Rattle.pr_run.specs.declared.turns.Stop.TheVariants as stop
 
@@ -30,20 +28,9 @@ goes m pick p e = any-passing (goes_on m.state) m.state.living _ p e
 pub forgotten : {P S Q T : Type 0} {M : ℕ} (number : T → ℕ) (part : S → Q) (old new : Kernel P S T M) → Clears number old new → machine_by number part new ≡ after_put (machine_by number part old)
 forgotten number part old new c = λ i. record { state = c.state i; watcher = part (c.stops i); tally = record { status = c.status i; broken = c.broken i } }
 
--- goes on, where it made a turn
-pub goes-on-made : {P S T : Type 0} {M : ℕ} (number : T → ℕ) (pick fuel : ℕ) (w : Watching S) (table : List Row) (old mid new : Kernel P S T M) → HasRun number w table pick fuel old mid
-    → mid.whole ≡ true → mid.paused ≡ [] → mid.calls ≤ suc old.calls → Clears number mid new → Continues (suc old.turns) old new
-goes-on-made number pick fuel w table old mid new made whole running calls c = record {
-  whole = c.whole ∙ whole;
-  places = c.places ∙ made.places;
-  turns_are = c.turns ∙ made.turns;
-  running = c.paused ∙ running;
-  calls = subst (λ n. n ≤ suc old.calls) (sym c.calls) calls;
-}
-
--- a turn that can be made, and stops
-pub stops-made : {S : Type 0} (m : Machine S) (put own : Put) (out err : Received) → own ≡ put → ending_of m ≡ None → (s : Stop) → StopsTurn own out err s → StopsMaking m put out err s
-stops-made m put own out err same on stop.NoMemory p = inr (on, subst (λ q. StopsTurn q out err stop.NoMemory) same p)
-stops-made m put own out err same on stop.Out p = (on, subst (λ q. StopsTurn q out err stop.Out) same p)
-stops-made m put own out err same on stop.Err p = (on, subst (λ q. StopsTurn q out err stop.Err) same p)
-stops-made m put own out err same on stop.Left p = (on, p)
+-- one that goes on, and stops
+pub stops-made : (ending : Option Ending) (put own : Put) (out err : Received) → own ≡ put → ending ≡ None → (s : Stop) → StopsTurn own out err s → StopsMaking ending put out err s
+stops-made ending put own out err same on stop.NoMemory p = inr (on, subst (λ q. StopsTurn q out err stop.NoMemory) same p)
+stops-made ending put own out err same on stop.Out p = (on, subst (λ q. StopsTurn q out err stop.Out) same p)
+stops-made ending put own out err same on stop.Err p = (on, subst (λ q. StopsTurn q out err stop.Err) same p)
+stops-made ending put own out err same on stop.Left p = (on, p)

@@ -7,7 +7,7 @@ use Rattle.pt_tracer.specs.kr_inode.Inode.{node_code}
 use Rattle.pt_tracer.specs.kr_inode.declared.user.User.{User}
 use Rattle.pr_sources.specs.kr_tree.Tree.{Nodes, nodes}
 use Rattle.pr_sources.specs.kr_text.Canonical.{canonical}
-use Rattle.kr_core.specs.kr_turns.Run.{Deadlock, Ending, Over, Put, Ran, Spent}
+use Rattle.kr_loose.specs.kr_turns.Run.{Deadlock, Ending, Over, Put, Ran, Spent}
 use Rattle.pr_sources.specs.declared.answer.Answer.TheVariants as answer
 use Rattle.pr_run.specs.Alike.{alike}
 use Rattle.pr_run.specs.Report.{Report, outs}

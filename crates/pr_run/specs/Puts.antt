@@ -1,18 +1,19 @@
 -- What is put of a run: all of it, or what stands where a sink failed or memory ran out.
-use Rattle.std.specs.Prelude.{◌≡◌, ◌≢◌, ◌≤◌, ◌⊎◌, ℕ, suc, ◌-◌, true, List, [], ◌++◌, take, slice_get, Some, None, Result, Ok, Err}
+use Rattle.std.specs.Prelude.{◌≡◌, ◌≢◌, ◌≤◌, ◌⊎◌, ℕ, suc, ◌-◌, true, List, [], ◌++◌, take, slice_get, Option, Some, None, Result, Ok, Err}
 use Rattle.pr_sources.specs.pr_io.Drawn.{Received, SinkFailed}
 use Rattle.pr_sources.specs.pr_io.Moves.{Gets, GetsPrefix, Stays}
-use Rattle.kr_core.specs.kr_view.View.{Row}
-use Rattle.kr_core.specs.Kernel.{Kernel}
-use Rattle.kr_core.specs.declared.kernel.Turned.{Turned}
-use Rattle.kr_core.specs.declared.kernel.Turned.TheVariants as turned
-use Rattle.kr_core.specs.kr_turns.Run.{Deadlock, Ending, Over, Put, Ran, Spent, after_put, ending_of, put_by}
-use Rattle.kr_core.specs.kr_turns.Turn.{Machine, turn}
-use Rattle.kr_core.specs.kr_stops.Watching.{Watcher}
+use Rattle.kr_loose.specs.kr_view.View.{Row}
+use Rattle.kr_loose.specs.kr_core.Kernel.{Kernel}
+use Rattle.kr_loose.specs.kr_core.declared.kernel.Turned.{Turned}
+use Rattle.kr_loose.specs.kr_core.declared.kernel.Turned.TheVariants as turned
+use Rattle.kr_loose.specs.kr_turns.Run.{Deadlock, Ending, Over, Put, Spent, ending_of}
+use Rattle.kr_loose.specs.kr_turns.Turn.{Machine, turn}
+use Rattle.pt_tracer.specs.kr_stops.Watching.{Watcher}
 use Rattle.pr_sources.specs.pr_words.declared.options.Slot.{Slot}
 use Rattle.pr_sources.specs.declared.answer.Answer.{Answer}
 use Rattle.pr_sources.specs.declared.answer.Answer.TheVariants as answer
 use Rattle.pr_sources.specs.declared.answer.Which.TheVariants as which
+use Rattle.pr_run.specs.Going.{Going, after_slot}
 use Rattle.pr_run.specs.Report.{Report, errs, outs}
 use Rattle.pr_run.specs.declared.turns.Stop.{Stop}
 use Rattle.pr_run.specs.declared.turns.Stop.TheVariants as stop
@@ -64,21 +65,26 @@ PutsTurn put out err (Ok done) = Got out put.out × Got err put.err
 PutsTurn put out err (Err stop) = StopsTurn put out err stop
 
 -- memory may run out while a turn is made, whether one can be made or not
-abbrev pub StopsMaking : {S : Type 0} → Machine S → Put → (out err : Received) → Stop → Type 0
-StopsMaking m put out err stop.NoMemory = (GotNone out × GotNone err) ⊎ ((ending_of m ≡ None) × StopsTurn put out err stop.NoMemory)
-StopsMaking m put out err stop = (ending_of m ≡ None) × StopsTurn put out err stop
+abbrev pub StopsMaking : Option Ending → Put → (out err : Received) → Stop → Type 0
+StopsMaking ending put out err stop.NoMemory = (GotNone out × GotNone err) ⊎ ((ending ≡ None) × StopsTurn put out err stop.NoMemory)
+StopsMaking ending put out err stop = (ending ≡ None) × StopsTurn put out err stop
 
-module _ {S : Type 0} (does : Watcher S) (marks : ℕ) (table : List Row) where
-  abbrev pub after_slot : Slot → Machine S → Machine S
-  after_slot slot m = turn does marks table slot.pick slot.fuel m
+module _ {X : Type 0} (g : Going X) where
+  -- it goes on by a slot where it can, its bytes are put, and it is then such
+  abbrev pub GoesAndPuts : Slot → X → (X → Type 0) → (out err : Received) → Result Turned Stop → Type 0
+  GoesAndPuts slot x Is out err (Ok turned.Ran) =
+      (g.ending x ≡ None) × Is (g.forgets (after_slot g slot x)) × Got out (g.put (after_slot g slot x)).out × Got err (g.put (after_slot g slot x)).err
+  GoesAndPuts slot x Is out err (Ok turned.Deadlock) = (g.ending x ≡ Some Deadlock) × Is x × GotNone out × GotNone err
+  GoesAndPuts slot x Is out err (Ok turned.Over) = (g.ending x ≡ Some Over) × Is x × GotNone out × GotNone err
+  GoesAndPuts slot x Is out err (Err stop) = StopsMaking (g.ending x) (g.put (after_slot g slot x)) out err stop
 
-  -- a turn is made where one can be, and put
-  abbrev pub MakesTurn : Slot → (old new : Machine S) → (out err : Received) → Result Turned Stop → Type 0
-  MakesTurn slot old new out err (Ok turned.Ran) =
-      (ending_of old ≡ None) × (new ≡ after_put (after_slot slot old)) × Got out (put_by (after_slot slot old)).out × Got err (put_by (after_slot slot old)).err
-  MakesTurn slot old new out err (Ok turned.Deadlock) = (ending_of old ≡ Some Deadlock) × (new ≡ old) × GotNone out × GotNone err
-  MakesTurn slot old new out err (Ok turned.Over) = (ending_of old ≡ Some Over) × (new ≡ old) × GotNone out × GotNone err
-  MakesTurn slot old new out err (Err stop) = StopsMaking old (put_by (after_slot slot old)) out err stop
+-- ---- a turn of a kernel
+
+-- one is made where it can be
+abbrev pub MakesTurn : {S : Type 0} → (does : Watcher S) (marks : ℕ) (table : List Row) → Slot → (old new : Machine S) → Turned → Type 0
+MakesTurn does marks table slot old new turned.Ran = (ending_of old ≡ None) × (new ≡ turn does marks table slot.pick slot.fuel old)
+MakesTurn does marks table slot old new turned.Deadlock = (ending_of old ≡ Some Deadlock) × (new ≡ old)
+MakesTurn does marks table slot old new turned.Over = (ending_of old ≡ Some Over) × (new ≡ old)
 
 -- a kernel that goes on after a turn, all of whose processes run
 pub record Continues {P S T : Type 0} {M : ℕ} (turns : ℕ) (old new : Kernel P S T M) : Type 0 where
@@ -87,6 +93,12 @@ pub record Continues {P S T : Type 0} {M : ℕ} (turns : ℕ) (old new : Kernel 
   pub turns_are : new.turns ≡ turns
   pub running : new.paused ≡ []
   pub calls : new.calls ≤ suc old.calls
+
+-- one before or after a turn, all of whose processes run, with no more calls than turns
+pub record IsBetweenTurns {P S T : Type 0} {M : ℕ} (k : Kernel P S T M) : Type 0 where
+  pub whole : k.whole ≡ true
+  pub running : k.paused ≡ []
+  pub calls : k.calls ≤ k.turns
 
 abbrev pub GoesOn : {P S T : Type 0} {M : ℕ} → Turned → Kernel P S T M → Kernel P S T M → Type 0
 GoesOn turned.Ran old new = Continues (suc old.turns) old new
@@ -125,9 +137,9 @@ StopsRun puts out err stop.Err = SinkFailed err × StopsInErr puts out err
 StopsRun puts out err stop.Left = ⊥
 StopsRun puts out err stop.NoMemory = StopsBetween puts out err
 
-abbrev pub PutsRun : {S : Type 0} → Ran S → (out err : Received) → Result End Stop → Type 0
-PutsRun ran out err (Ok e) = (ran.ending ≡ end_told e) × Got out (outs ran.puts) × Got err (errs ran.puts)
-PutsRun ran out err (Err stop) = StopsRun ran.puts out err stop
+abbrev pub PutsRun : List Put → Ending → (out err : Received) → Result End Stop → Type 0
+PutsRun puts ending out err (Ok e) = (ending ≡ end_told e) × Got out (outs puts) × Got err (errs puts)
+PutsRun puts ending out err (Err stop) = StopsRun puts out err stop
 
 -- ---- the line on calm, and the listing
 

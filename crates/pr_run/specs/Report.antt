@@ -1,13 +1,12 @@
 -- The report of a run: what its turns put out, whether it was calm, the listing of the tree that it left, and the answer.
 use Rattle.std.specs.Prelude.{ℕ, Bool, List, [], ◌∷◌, ◌++◌, codes, Option, Some, None, if◌then◌else◌}
-use Rattle.std.specs.Option.{option_map, option_map_or}
+use Rattle.std.specs.Option.{option_map}
 use Rattle.std.specs.Fmt.{decimal}
 use Rattle.pr_sources.specs.kr_text.Canonical.{canonical}
-pub use Rattle.kr_core.specs.kr_turns.Run.{Deadlock, Ending, Over, Spent}
-use Rattle.kr_core.specs.kr_turns.Run.{Put, Ran, ending_of}
-use Rattle.kr_core.specs.kr_turns.Turn.{Machine}
-use Rattle.kr_core.specs.kr_turns.kr_calm.Calm.{rule_number}
-use Rattle.kr_core.specs.kr_turns.kr_calm.declared.rule.Rule.{Rule}
+pub use Rattle.kr_loose.specs.kr_turns.Run.{Deadlock, Ending, Over, Spent}
+use Rattle.kr_loose.specs.kr_turns.Run.{Put, Ran}
+use Rattle.kr_loose.specs.kr_calm.Calm.{rule_number}
+use Rattle.kr_loose.specs.kr_calm.declared.rule.Rule.{Rule}
 use Rattle.pr_sources.specs.declared.answer.Answer.{Answer}
 use Rattle.pr_sources.specs.declared.answer.Answer.TheVariants as answer
 use Rattle.pr_run.specs.declared.plan.Plan.{Plan}
@@ -52,10 +51,6 @@ abbrev pub answer_of : Ending → ℕ → Answer
 answer_of Over status = answer.Ended status
 answer_of Deadlock status = answer.Deadlock
 answer_of Spent status = answer.Spent
-
--- how a run ends whose turns were made
-abbrev pub last_ending : {S : Type 0} → Machine S → Ending
-last_ending m = option_map_or (λ ending. ending) (ending_of m) Spent
 
 pub record Report : Type 0 where
   pub puts : List Put

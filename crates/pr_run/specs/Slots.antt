@@ -1,10 +1,10 @@
 -- The slots of the turns of a run, what a plan of one keeps, and the run.
 use Rattle.std.specs.Prelude.{ℕ, ◌≤◌, ◌<◌, ◌^◌, List, [], ◌∷◌, map}
 use Rattle.std.specs.List.{All}
-use Rattle.kr_core.specs.kr_view.View.{Row}
-use Rattle.kr_core.specs.Kernel.{Kernel, machine_by}
-use Rattle.kr_core.specs.kr_turns.Run.{Ran, Slot, cycle, run}
-use Rattle.kr_core.specs.kr_stops.Watching.{Watcher}
+use Rattle.kr_loose.specs.kr_view.View.{Row}
+use Rattle.kr_loose.specs.kr_core.Kernel.{Kernel, machine_by}
+use Rattle.kr_loose.specs.kr_turns.Run.{Ran, Slot, cycle, run}
+use Rattle.pt_tracer.specs.kr_stops.Watching.{Watcher}
 use Rattle.pr_sources.specs.pr_words.declared.options.Slot.{Slot as SlotOfWords}
 use Rattle.pr_run.specs.declared.plan.Plan.{Plan}
 

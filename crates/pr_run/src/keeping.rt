@@ -1,18 +1,17 @@
 //! A run whose bytes are kept, turn after turn, so that it can be compared with another.
-ghost use Rattle.std.specs.Prelude.{◌≡◌, ◌≤◌, ◌<◌, ◌^◌, ◌↔◌, [], true, length, IfOk, OnOk, IsTrue};
-ghost use Rattle.kr_core.specs.Kernel.{Clears, HasNoTurn, machine, machine_by};
-ghost use Rattle.kr_core.specs.kr_turns.Run.{put_by};
+ghost use Rattle.std.specs.Prelude.{◌≡◌, ◌≤◌, ◌<◌, ◌^◌, ◌↔◌, [], suc, length, IfOk, OnOk, IsTrue};
+ghost use Rattle.kr_loose.specs.kr_core.Kernel.{HasNoTurn, machine, machine_by};
 ghost use Rattle.pr_run.specs.Case.{outcome};
-ghost use Rattle.pr_run.specs.Keeping.{KeepsTurn, kept_told, put_told, puts_told};
-ghost use Rattle.pr_run.specs.Puts.{GoesOn, end_told};
+ghost use Rattle.pr_run.specs.Going.{went_by};
+ghost use Rattle.pr_run.specs.Keeping.{GoesAndKeeps, IsKept, kept_told, put_told, puts_told};
+ghost use Rattle.pr_run.specs.Puts.{end_told};
 ghost use Rattle.pr_run.specs.Report.{outs};
 ghost use Rattle.pr_run.specs.Slots.{IsPlan, run_of};
 
-use crate::laws::parts_turn;
+use crate::going::Goes;
 use crate::plan::Plan;
-use crate::turns::{End, end_after};
-use kr_core::below::Places;
-use kr_core::{Kernel, Turned};
+use crate::turns::End;
+use kr_loose::below::{Kernel, Places, Turned};
 use pr_sources::below::{Bytes, NoMemory, Slot, Tree};
 use pt_tracer::Graphed;
 use std::alloc::Global;
@@ -32,46 +31,68 @@ pub struct Kept {
     pub status: u8,
 }
 
-/// Takes a copy of the bytes of a turn out of the kernel.
-fn take_bytes<P: Places, S: Graphed, const M: u8>(
-    alloc: Global,
-    kernel: &mut Kernel<P, S, M>,
-) -> Result<Written, NoMemory>
-    ensures bytes { IfOk result (λ written. put_told written ≡ put_by (machine P.number kernel.old)) }
-    ensures cleared { OnOk result (Clears P.number kernel.old kernel.new) }
+/// Takes a copy of the bytes of a turn, and forgets them.
+fn take_bytes<G: Goes>(alloc: Global, run: &mut G) -> Result<Written, NoMemory>
+    ensures bytes { IfOk result (λ written. put_told written ≡ G.written run.old) }
+    ensures forgets { OnOk result ((x : G.Run) → G.stands_for run.old x → G.stands_for run.new ((G.going (G.fixed run.old)).forgets x)) }
+    ensures whole { OnOk result (G.is_whole run.old → G.is_whole run.new) }
+    ensures fixed { OnOk result (G.fixed run.new ≡ G.fixed run.old) }
+    ensures made { OnOk result (G.made run.new ≡ G.made run.old) }
 {
-    let out = Bytes::copy(alloc, kernel.out())?;
-    let err = Bytes::copy(alloc, kernel.err())?;
-    kernel.clear_bytes();
+    let out = Bytes::copy(alloc, run.out())?;
+    let err = Bytes::copy(alloc, run.err())?;
+    run.clear_bytes();
     Ok(Written { out, err })
 }
 
-/// Makes a turn, and keeps the bytes that it wrote behind those of the turns before. The end is told where no turn can be made.
-fn keep_turn<P: Places, S: Graphed, const M: u8>(
+/// Goes on by a slot, where it can, and keeps the bytes that were written behind those from before. The end is told where it can't go on.
+fn keep_slot<G: Goes>(
     alloc: Global,
-    kernel: &mut Kernel<P, S, M>,
+    run: &mut G,
     slot: Slot,
     puts: &mut Vec<Written>,
 ) -> Result<Turned, NoMemory>
-    requires whole { kernel.old.whole ≡ true }
-    requires running { kernel.old.paused ≡ [] }
+    requires whole { G.is_whole run.old }
     requires fuel { 1 ≤ slot.fuel }
-    requires few { kernel.old.turns < 2 ^ 31 }
-    requires few_calls { kernel.old.calls < 2 ^ 31 }
-    ensures keeps { IfOk result (KeepsTurn S.does M (P.mounts kernel.old.places) slot (machine_by P.number S.part kernel.old) (machine_by P.number S.part kernel.new) (puts_told puts.old.items) (puts_told puts.new.items)) }
-    ensures goes_on { IfOk result (λ turned. GoesOn turned kernel.old kernel.new) }
+    requires few { G.made run.old < 2 ^ 31 }
+    ensures keeps { IfOk result (λ turned. (x : G.Run) → G.stands_for run.old x → GoesAndKeeps (G.going (G.fixed run.old)) slot x (G.stands_for run.new) (puts_told puts.old.items) (puts_told puts.new.items) turned) }
+    ensures whole { OnOk result (G.is_whole run.new) }
+    ensures fixed { OnOk result (G.fixed run.new ≡ G.fixed run.old) }
+    ensures made { OnOk result (G.made run.new ≤ suc (G.made run.old)) }
 {
-    parts_turn::<S>();
-    S::is_graph();
-    match kernel.turn(slot.pick, slot.fuel) {
+    match run.go(slot) {
         Ok(Turned::Ran) => {}
         Ok(Turned::Deadlock) => return Ok(Turned::Deadlock),
         Ok(Turned::Over) => return Ok(Turned::Over),
         Err(no_memory) => return Err(no_memory),
     }
-    let written = take_bytes(alloc, kernel)?;
+    let written = take_bytes(alloc, run)?;
     puts.push(written)?;
     Ok(Turned::Ran)
+}
+
+/// Goes on slot by slot until it can't, which is tested first, or the stated number of slots was used, and keeps the bytes of each.
+fn keep_slots<G: Goes>(
+    alloc: Global,
+    run: &mut G,
+    plan: &Plan,
+    puts: &mut Vec<Written>,
+) -> Result<End, NoMemory>
+    requires whole { G.is_whole run.old }
+    requires first { G.made run.old ≡ 0 }
+    requires plan { IsPlan plan.now }
+    requires empty { puts.old.items ≡ [] }
+    ensures { IfOk result (λ end. (x : G.Run) → G.stands_for run.old x → IsKept (went_by (G.going (G.fixed run.old)) plan.now x) (G.stands_for run.new) (puts_told puts.new.items) (end_told end)) }
+{
+    for turn in 0..plan.turns {
+        let slot = plan.slot(turn);
+        match keep_slot(alloc, run, slot, puts)? {
+            Turned::Ran => {}
+            Turned::Deadlock => return Ok(End::Deadlock),
+            Turned::Over => return Ok(End::Over),
+        }
+    }
+    Ok(run.end())
 }
 
 /// Makes turns until no process lives, none is ready, or the stated number of turns was made, tested in this order, and keeps their bytes.
@@ -88,15 +109,7 @@ fn keep_turns<P: Places, S: Graphed, const M: u8>(
     ensures puts { OnOk result ((run_of S.part S.does P.mounts P.number plan.now kernel.old).puts ≡ puts_told puts.new.items) }
     ensures machine { OnOk result ((run_of S.part S.does P.mounts P.number plan.now kernel.old).machine ≡ machine_by P.number S.part kernel.new) }
 {
-    for turn in 0..plan.turns {
-        let slot = plan.slot(turn);
-        match keep_turn(alloc, kernel, slot, puts)? {
-            Turned::Ran => {}
-            Turned::Deadlock => return Ok(End::Deadlock),
-            Turned::Over => return Ok(End::Over),
-        }
-    }
-    Ok(end_after(kernel))
+    keep_slots(alloc, kernel, plan, puts)
 }
 
 /// Runs a kernel that has begun to its end, and keeps what became of it; the tree stays in the kernel.

@@ -1,7 +1,7 @@
 //! The report of a run.
 ghost use Rattle.std.specs.Prelude.{◌≡◌, ◌≤◌, IfOk};
 ghost use Rattle.pr_sources.specs.pr_io.Drawn.{received};
-ghost use Rattle.kr_core.specs.Kernel.{HasNoTurn, machine};
+ghost use Rattle.kr_loose.specs.kr_core.Kernel.{HasNoTurn, machine};
 ghost use Rattle.pr_sources.specs.kr_text.Canonical.{canonical};
 ghost use Rattle.pr_run.specs.Report.{answer_of, calm_line, calm_told, report_of};
 ghost use Rattle.pr_run.specs.Puts.{AnswersReport, PutsCalm, PutsListing, PutsReport, end_told};
@@ -9,8 +9,7 @@ ghost use Rattle.pr_run.specs.Slots.{IsPlan, run_of};
 
 use crate::plan::Plan;
 use crate::turns::{End, Stop, put_some, run_turns};
-use kr_core::Kernel;
-use kr_core::below::Places;
+use kr_loose::below::{Kernel, Places};
 use pr_sources::Answer;
 use pr_sources::below::{Bytes, NoMemory, PutFault, Sink, write};
 use pt_tracer::Graphed;
@@ -51,7 +50,7 @@ fn put_calm<R: Sink>(
 }
 
 /// Puts the listing of the tree that a run left.
-fn put_listing<P: Places, S: Graphed, L: Sink, const M: u8>(
+pub(crate) fn put_listing<P: Places, S: Graphed, L: Sink, const M: u8>(
     alloc: Global,
     kernel: &Kernel<P, S, M>,
     plan: &Plan,
@@ -70,7 +69,7 @@ fn put_listing<P: Places, S: Graphed, L: Sink, const M: u8>(
 }
 
 /// The answer on how a run ended.
-fn answer_of(end: End, status: u8) -> Answer
+pub(crate) fn answer_of(end: End, status: u8) -> Answer
     ensures { result ≡ answer_of (end_told end) status }
 {
     match end {

@@ -5,7 +5,7 @@ use Rattle.kr_start.specs.kr_mounts.declared.fault.BindWhy.TheVariants.{NoSource
 use Rattle.kr_start.specs.kr_text.declared.fault.TreeWhy.{TreeWhy}
 use Rattle.kr_start.specs.kr_text.declared.fault.TreeWhy.TheVariants.{Form, Number, Name, NoParent, Twice as TwiceNamed, NoTarget, RootUser, NoUser, NoRoot, TwoElf, TooBig}
 use Rattle.pr_words.specs.declared.fault.Why.{Why}
-use Rattle.pr_words.specs.declared.fault.Why.TheVariants.{Unknown, NoValue, BadNumber, BadSchedule, BadBind, BadEnv, Twice, CalmAlone, CaseAlone, ZeroByte, BadId}
+use Rattle.pr_words.specs.declared.fault.Why.TheVariants.{Unknown, NoValue, BadNumber, BadSchedule, BadBind, BadEnv, Twice, CalmAlone, CaseAlone, ZeroByte, BadId, LooseAlone}
 use Rattle.pr_sources.specs.declared.answer.Which.{Which}
 use Rattle.pr_sources.specs.declared.answer.Which.TheVariants.{Tree, Elf, Input, Out, Err, Left}
 
@@ -29,6 +29,7 @@ word_rule CalmAlone = codes "CalmAlone"
 word_rule CaseAlone = codes "CaseAlone"
 word_rule ZeroByte = codes "ZeroByte"
 word_rule BadId = codes "BadId"
+word_rule LooseAlone = codes "LooseAlone"
 
 abbrev pub tree_rule : TreeWhy → List ℕ
 tree_rule Form = codes "Form"

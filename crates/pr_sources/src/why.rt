@@ -28,6 +28,7 @@ impl fmt::Display for WordRule {
             Why::CaseAlone => "CaseAlone",
             Why::ZeroByte => "ZeroByte",
             Why::BadId => "BadId",
+            Why::LooseAlone => "LooseAlone",
         })
     }
 }

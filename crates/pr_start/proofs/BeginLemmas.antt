@@ -45,7 +45,7 @@ begins-from places watch reach answer (Ok k) starts =
       watcher = sym b.stops_are i;
       tally = record { status = sym b.status i; broken = sym b.broken i };
     } in
-    (ap (λ (a : Result (State ℕ Image) Errno). and_then a (λ s. Ok (fresh watch reach s))) starts.0 ∙ ap (λ (m : Machine Watch). Ok m) same, record { turns = b.turns; calls = b.calls; running = b.running; whole = b.whole })
+    (ap (λ (a : Result (State ℕ Image) Errno). and_then a (λ s. Ok (fresh watch reach s))) starts.0 ∙ ap (λ (m : Machine Watch). Ok m) same, record { turns = b.turns; calls = b.calls; shape_changes = b.shape_changes; byte_changes = b.byte_changes; running = b.running; whole = b.whole })
 begins-from places watch reach answer (Err (fault.Err e)) starts = ap (λ (a : Result (State ℕ Image) Errno). and_then a (λ s. Ok (fresh watch reach s))) starts
 begins-from places watch reach answer (Err fault.NoMemory) starts = tt
 
@@ -60,6 +60,6 @@ begins-unmarked places watch reach answer (Ok started) starts =
       watcher = sym b.stops_are i;
       tally = record { status = sym b.status i; broken = sym rule i };
     } in
-    (ap (λ (a : Result (State ℕ Image) Errno). and_then a (λ s. Ok (fresh watch reach s))) starts.0 ∙ ap (λ (m : Machine Watch). Ok m) same, record { turns = b.turns; calls = b.calls; running = b.running; whole = b.whole })
+    (ap (λ (a : Result (State ℕ Image) Errno). and_then a (λ s. Ok (fresh watch reach s))) starts.0 ∙ ap (λ (m : Machine Watch). Ok m) same, record { turns = b.turns; calls = b.calls; shape_changes = b.shape_changes; byte_changes = b.byte_changes; running = b.running; whole = b.whole })
 begins-unmarked places watch reach answer (Err (fault.Err e)) starts = ap (λ (a : Result (State ℕ Image) Errno). and_then a (λ s. Ok (fresh watch reach s))) starts
 begins-unmarked places watch reach answer (Err fault.NoMemory) starts = tt

@@ -1,13 +1,13 @@
 //! The start.
-ghost use Rattle.std.specs.Prelude.{◌≡◌, []};
+ghost use Rattle.std.specs.Prelude.{◌≡◌, [], not, true, IfOk};
 ghost use Rattle.kr_core.specs.kr_mounts.Standing.{texts_of};
 ghost use Rattle.kr_core.specs.kr_mounts.Stored.{table_of};
 ghost use Rattle.kr_core.specs.kr_start.Ready.{IsReady};
 ghost use Rattle.pt_tracer.specs.pt_bind.Binding.{rows_of};
 ghost use Rattle.pt_tracer.specs.pt_canon.Canon.{texts_by};
 ghost use Rattle.pt_first.specs.FirstPeeks.{first_peeked};
-ghost use Rattle.pt_first.specs.GuestStart.{IsBegun, guest_start};
-ghost use Rattle.pr_start.specs.TracedBeginning.{BeginsTraced, traced_beginning};
+ghost use Rattle.pt_first.specs.GuestStart.{IsBegunNoting, guest_start, start_unmet};
+ghost use Rattle.pr_start.specs.TracedBeginning.{BeginsTraced, traced_beginning, start_meets};
 
 use kr_core::Kernel;
 use kr_core::below::{First, Plain, Stage, StartFault};
@@ -30,7 +30,8 @@ pub fn start_traced(
 ) -> Result<Kernel<Plain, Tracer, 0>, StartFault>
     requires ready { IsReady stage.tree stage.user (table_of stage.places) }
     requires texts { rows_of stage.texts ≡ texts_of (table_of stage.places) }
-    ensures { BeginsTraced (traced_beginning (texts_of (table_of stage.places)) stage.tree stage.user ids launch input) result }
+    ensures begins { BeginsTraced (traced_beginning (texts_of (table_of stage.places)) stage.tree stage.user ids launch input) result }
+    ensures met { IfOk result (λ kernel. kernel.met ≡ start_meets (texts_of (table_of stage.places)) stage.tree stage.user launch) }
 {
     let Stage {
         tree,
@@ -63,7 +64,8 @@ fn first_found(
     launch: Launch,
 ) -> Result<First, StartFault>
     requires unpaused { walker.old.pauses ≡ 0 }
-    ensures begins { IsBegun (guest_start (texts_by walker.old.table (first_peeked tree.now user) tags.old) launch) tags.old tags.new result }
+    ensures begins { let texts = texts_by walker.old.table (first_peeked tree.now user) tags.old in
+        IsBegunNoting (not (start_unmet texts launch true)) (guest_start texts launch) tags.old tags.new result }
     ensures walker { walker.new ≡ record { table = walker.old.table; pauses = 0; remembered = [] } }
 {
     walker.pause();

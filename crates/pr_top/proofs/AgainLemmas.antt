@@ -17,7 +17,7 @@ use Rattle.pr_run.specs.pr_sources.Asking.{asked}
 use Rattle.pr_run.specs.pr_sources.Reading.{asks, file_limit, listed, listed_of, read_asked, read_file, read_listing, tree_limit, with_input}
 use Rattle.pr_run.specs.pr_sources.Within.{and_then, within}
 use Rattle.pr_run.specs.pr_sources.declared.reading.Asked.{Asked}
-use Rattle.pr_top.specs.Opening.{Begun, Both, Mounts, Started, Traced, begun, opened_for, opening, report, report_on}
+use Rattle.pr_top.specs.Opening.{Begun, Both, Loosely, Mounts, Started, Traced, begins, opened_for, opening, report, report_on}
 use Rattle.pr_top.specs.Again.{AreReadAgain, tree_left, tree_on}
 
 fits : (limit : ℕ) (which : Which) (bytes : List ℕ) → length bytes ≤ limit → within limit which bytes ≡ Ok bytes
@@ -41,16 +41,17 @@ module _ (words : List (List ℕ)) (options : Options) (left elf file input : Li
       ap (λ (r : Result (Tree × User) Answer). and_then r (λ read. with_input options read input)) listed
       ∙ given
 
-  open_all : asked words ≡ Ok options → options.case ≡ None → read_asked options left elf input ≡ Ok (asks options read input) → opening words left elf input ≡ begun (asks options read input)
+  open_all : asked words ≡ Ok options → options.case ≡ None → read_asked options left elf input ≡ Ok (asks options read input) → opening words left elf input ≡ begins (asks options read input)
   open_all worded none told =
       ap (λ (o : Result Options Answer). and_then o (λ (o : Options). opened_for o.case o left elf input)) worded
       ∙ ap (λ (n : Option ℕ). opened_for n options left elf input) none
-      ∙ ap (λ (r : Result Asked Answer). and_then r (λ asked. begun asked)) told
+      ∙ ap (λ (r : Result Asked Answer). and_then r (λ asked. begins asked)) told
 
 -- whichever machine made the run, its report has the listing of the tree that it left
 left_is : (b : Begun) (s : Started) → (report_on b.plan s).left ≡ canonical (tree_on b s) b.plan.user
 left_is b (Mounts table m) = refl
 left_is b (Traced m) = refl
+left_is b (Loosely met m) = refl
 left_is b (Both n m table k) = refl
 
 pub are_read_again : AreReadAgain

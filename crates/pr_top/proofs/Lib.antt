@@ -7,3 +7,4 @@ pub mod OpeningLemmas
 pub mod GeneratedLemmas
 pub mod AgainLemmas
 pub mod MarksLemmas
+pub mod StepwiseLemmas

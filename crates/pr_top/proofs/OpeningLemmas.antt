@@ -8,16 +8,16 @@ use Rattle.pr_run.specs.pr_sources.Asking.{IsOfAsking, IsRefused}
 use Rattle.pr_run.specs.pr_sources.Reading.{AllAreRead, AsksCase, EndsBeforeElf, EndsBeforeInput, HasCause, IsOfWords, IsRead, IsReadAs, IsReadUpTo, IsRefusal, ReadHasCause, ReadsSources, Sources, read_asked}
 use Rattle.pr_run.specs.pr_sources.Within.{ComesTo, and_then}
 use Rattle.pr_run.specs.pr_sources.declared.reading.Asked.{Asked}
-use Rattle.pr_top.specs.Opening.{Begun, IsOfStart, OpensFrom, ReadsAs, WasRead, begun, case_begun, opened_for}
+use Rattle.pr_top.specs.Opening.{Begun, IsOfStart, OpensFrom, ReadsAs, WasRead, begins, case_begun, opened_for}
 use Rattle.pr_top.specs.declared.opening.Opened.{Opened}
 
 -- what is read is settled and started
-pub opens-then : (r : Result Asked Answer) (x : Asked) (answer : Result Opened Answer) → ComesTo r (Ok x) → OpensFrom (begun x) answer → OpensFrom (and_then r (λ a. begun a)) answer
-opens-then r x answer first next = subst (λ q. OpensFrom (and_then q (λ a. begun a)) answer) (sym first) next
+pub opens-then : (r : Result Asked Answer) (x : Asked) (answer : Result Opened Answer) → ComesTo r (Ok x) → OpensFrom (begins x) answer → OpensFrom (and_then r (λ a. begins a)) answer
+opens-then r x answer first next = subst (λ q. OpensFrom (and_then q (λ a. begins a)) answer) (sym first) next
 
 -- what is refused stays so
-pub opens-stop : (r : Result Asked Answer) (a : Answer) → ComesTo r (Err a) → OpensFrom (and_then r (λ x. begun x)) (Err a)
-opens-stop r a (inl e) = inl (ap (λ (q : Result Asked Answer). and_then q (λ x. begun x)) e)
+pub opens-stop : (r : Result Asked Answer) (a : Answer) → ComesTo r (Err a) → OpensFrom (and_then r (λ x. begins x)) (Err a)
+opens-stop r a (inl e) = inl (ap (λ (q : Result Asked Answer). and_then q (λ x. begins x)) e)
 opens-stop r a (inr early) = inr early
 
 -- ---- what was read
@@ -114,7 +114,7 @@ module _ (words : Result Options Answer) (o : Options) (worded : words ≡ Ok o)
 
   module _ (is : o.case ≡ None) where
     -- none is
-    pub opens-sources : (tree elf input : List ℕ) (answer : Result Opened Answer) → OpensFrom (and_then (read_asked o tree elf input) (λ a. begun a)) answer → OpensFrom (and_then words (λ o. opened_for o.case o tree elf input)) answer
+    pub opens-sources : (tree elf input : List ℕ) (answer : Result Opened Answer) → OpensFrom (and_then (read_asked o tree elf input) (λ a. begins a)) answer → OpensFrom (and_then words (λ o. opened_for o.case o tree elf input)) answer
     opens-sources tree elf input answer opens =
         subst (λ w. OpensFrom (and_then w (λ o. opened_for o.case o tree elf input)) answer) (sym worded) (subst (λ k. OpensFrom (opened_for k o tree elf input) answer) (sym is) opens)
 

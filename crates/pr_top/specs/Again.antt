@@ -6,12 +6,13 @@ use Rattle.pr_start.specs.kr_tree.Tree.{Tree}
 use Rattle.pr_gen.specs.kr_text.Same.{CanBeListed, IsSame}
 use Rattle.pr_run.specs.pr_sources.Asking.{asked}
 use Rattle.pr_run.specs.pr_sources.Reading.{asks, file_limit, read_file, tree_limit}
-use Rattle.pr_top.specs.Opening.{Begun, Both, Mounts, Started, Traced, begun, mounted_run, opening, report, traced_run}
+use Rattle.pr_top.specs.Opening.{Begun, Both, Mounts, Loosely, Started, Traced, begins, loose_traced_run, mounted_run, opening, report, traced_run}
 
 -- the tree that a run leaves, by the machine that makes it; of a generated case that of the watched one
 abbrev pub tree_on : Begun → Started → Tree
 tree_on b (Mounts table m) = (mounted_run b.plan table m).machine.state.tree
 tree_on b (Traced m) = (traced_run b.plan m).machine.state.tree
+tree_on b (Loosely met m) = (loose_traced_run b.plan m).left.machine.state.tree
 tree_on b (Both n m table k) = (traced_run b.plan m).machine.state.tree
 
 abbrev pub tree_left : Begun → Tree
@@ -26,4 +27,4 @@ AreReadAgain =
     → (words : List (List ℕ)) (options : Options) → asked words ≡ Ok options → options.case ≡ None
     → (elf file : List ℕ) → read_file elf (report b).left ≡ Ok file
     → (input : List ℕ) → length input ≤ file_limit
-    → (u : Tree) × (opening words (report b).left elf input ≡ begun (asks options (u, b.plan.user) input)) × IsSame (tree_left b) u
+    → (u : Tree) × (opening words (report b).left elf input ≡ begins (asks options (u, b.plan.user) input)) × IsSame (tree_left b) u

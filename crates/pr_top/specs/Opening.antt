@@ -1,6 +1,6 @@
 -- The opening: the first refusal in the order of the words, the sources, the bindings and the start, or a run that begins. It is a function of
 -- the words and of the bytes that the sources gave; a generated case needs none.
-use Rattle.std.specs.Prelude.{◌≡◌, ◌⊎◌, ℕ, Bool, false, List, [], codes, Option, Some, None, IfOk, Result, Ok, Err, if◌then◌else◌}
+use Rattle.std.specs.Prelude.{◌≡◌, ◌⊎◌, ℕ, Bool, false, List, [], codes, Option, Some, None, IfOk, Result, Ok, Err, if◌then◌else◌, ◌∷◌, true}
 use Rattle.pr_start.specs.pr_base.declared.errno.Errno.{Errno}
 use Rattle.pr_start.specs.kr_tree.Tree.{Tree}
 use Rattle.pr_start.specs.kr_view.View.{Row, plain}
@@ -23,16 +23,21 @@ use Rattle.pr_run.specs.pr_sources.Reading.{IsRead, listed, read_asked}
 use Rattle.pr_run.specs.pr_sources.declared.reading.Asked.{Asked}
 use Rattle.pr_start.specs.Beginning.{beginning, told_with}
 use Rattle.pr_start.specs.Machines.{Faked, Machine, Nobody, Ran, Watch, machine, run, starting_faking, watch}
-use Rattle.pr_start.specs.TracedBeginning.{TracedKernel, Tracing, traced_beginning, traced_machine, tracer}
+use Rattle.pr_start.specs.TracedBeginning.{TracedKernel, Tracing, asks, start_meets, traced_beginning, traced_machine, tracer}
 use Rattle.pr_start.specs.Numbers.{number_of}
 use Rattle.pr_start.specs.pr_words.declared.launch.Launch.{Launch}
 use Rattle.pr_gen.specs.Case.{case_binds, case_command, case_root}
 use Rattle.pr_gen.specs.Guest.{guest}
 use Rattle.pr_gen.specs.Listing.{case_listing}
 use Rattle.pr_start.specs.pr_words.declared.options.Options.{Options}
+use Rattle.pr_start.specs.pr_words.declared.options.Slot.{Slot}
+use Rattle.pr_run.specs.pr_io.Drawn.{Received}
 use Rattle.pr_run.specs.Case.{case_report_of}
+use Rattle.pr_run.specs.kr_loose.LooseRun.{LooseRan}
+use Rattle.pr_run.specs.Puts.{AnswersReport}
 use Rattle.pr_run.specs.Report.{Report, report_of}
 use Rattle.pr_run.specs.Slots.{IsPlan, slot_of}
+use Rattle.pr_run.specs.Stepping.{AnswersLoosely, HasNoStep, TellsQuiet, loose_ran, loose_report, loose_report_with}
 use Rattle.pr_run.specs.declared.plan.Plan.{Plan}
 use Rattle.pr_top.specs.declared.opening.Kind.{Kind}
 use Rattle.pr_top.specs.declared.opening.Kind.TheVariants as kind
@@ -40,11 +45,12 @@ use Rattle.pr_top.specs.declared.opening.Opened.{Opened}
 
 -- ---- a run that begins
 
--- the machine before its first turn: a kernel over mounts, with those that stand; or a plain kernel with its tracer; or both, for the
--- generated case of a number
+-- the machine before its first turn: a kernel over mounts, with those that stand; or a plain kernel with its tracer; or that by single steps, with
+-- whether the walks of its start looked up a name in the process directory; or both of the first two, for the generated case of a number
 pub data Started : Type 0 where
   Mounts : List Row → Machine Watch → Started
   Traced : Machine Tracing → Started
+  Loosely : Bool → Machine Tracing → Started
   Both : ℕ → Machine Tracing → List Row → Machine Watch → Started
 
 -- with what the run is made by
@@ -60,13 +66,27 @@ mounted_run plan table m = run watch 1 table (slot_of plan.schedule) plan.turns 
 abbrev pub traced_run : Plan → Machine Tracing → Ran Tracing
 traced_run plan m = run tracer 0 plain (slot_of plan.schedule) plan.turns m
 
+-- and the same by single steps
+abbrev pub loose_traced_run : Plan → Machine Tracing → LooseRan Tracing
+loose_traced_run plan m = loose_ran tracer 0 plain plan m
+
+-- of a loose run all but its line
 abbrev pub report_on : Plan → Started → Report
 report_on plan (Mounts table m) = report_of plan (mounted_run plan table m)
 report_on plan (Traced m) = report_of plan (traced_run plan m)
+report_on plan (Loosely met m) = loose_report_with plan (loose_traced_run plan m) []
 report_on plan (Both n m table k) = case_report_of n plan.user (traced_run plan m) (mounted_run plan table k)
 
 abbrev pub report : Begun → Report
 report b = report_on b.plan b.started
+
+-- what is answered and put of it: its report, of a loose run one with the line that is so of its steps
+abbrev pub AnswersStarted : Plan → Started → (out err left : Received) → Answer → Type 0
+AnswersStarted plan (Loosely met m) out err left answer = AnswersLoosely (loose_report plan (loose_traced_run plan m)) (TellsQuiet asks 0 plain met (loose_traced_run plan m)) out err left answer
+AnswersStarted plan s out err left answer = AnswersReport (report_on plan s) out err left answer
+
+abbrev pub AnswersBegun : Begun → (out err left : Received) → Answer → Type 0
+AnswersBegun b out err left answer = AnswersStarted b.plan b.started out err left answer
 
 -- ---- bindings and the start
 
@@ -110,6 +130,50 @@ on_settled a s = over a s.tree s.answer
 -- the bindings are settled over the tree that was read, and the command is started over them
 abbrev pub begun : Asked → Result Begun Answer
 begun a = on_settled a (settling a.tree a.user a.options.root a.options.binds)
+
+-- ---- single steps
+
+abbrev pub gives_slots : List Slot → Bool
+gives_slots [] = false
+gives_slots (slot ∷ slots) = true
+
+-- those of single steps where some are given, else those of turns
+abbrev pub slots_for : (schedule loose : List Slot) → List Slot
+slots_for schedule [] = schedule
+slots_for schedule (slot ∷ slots) = slot ∷ slots
+
+abbrev pub loosened_plan : List Slot → Plan → Plan
+loosened_plan loose plan = record { turns = plan.turns; schedule = slots_for plan.schedule loose; calm = plan.calm; user = plan.user }
+
+-- whether the walks of a start with a tracer look up a name in the process directory
+abbrev pub meets_over : Asked → Tree → Result (List Row) Refusal → Bool
+meets_over a tree (Ok table) = start_meets (texts_of table) tree a.user (launch_of a)
+meets_over a tree (Err refusal) = false
+
+abbrev pub meets_on : Asked → Settling → Bool
+meets_on a s = meets_over a s.tree s.answer
+
+abbrev pub meets : Asked → Bool
+meets a = meets_on a (settling a.tree a.user a.options.root a.options.binds)
+
+abbrev pub stepwise : Bool → Bool → Started → Started
+stepwise true met (Traced m) = Loosely met m
+stepwise true met (Mounts table m) = Mounts table m
+stepwise true met (Loosely already m) = Loosely already m
+stepwise true met (Both n m table k) = Both n m table k
+stepwise false met s = s
+
+abbrev pub stepwise_start : Bool → Bool → Result Started Errno → Result Started Errno
+stepwise_start steps met (Ok s) = Ok (stepwise steps met s)
+stepwise_start steps met (Err e) = Err e
+
+-- what is begun with a tracer goes by single steps where their slots are given
+abbrev pub stepwise_begun : List Slot → Bool → Result Begun Answer → Result Begun Answer
+stepwise_begun loose met (Ok b) = Ok (record { plan = loosened_plan loose b.plan; started = stepwise (gives_slots loose) met b.started })
+stepwise_begun loose met (Err answer) = Err answer
+
+abbrev pub begins : Asked → Result Begun Answer
+begins a = stepwise_begun a.options.loose (meets a) (begun a)
 
 -- ---- a generated case
 
@@ -166,7 +230,7 @@ case_begun n o = begun_both n o (case_staged n)
 -- no source is read for a generated case
 abbrev pub opened_for : Option ℕ → Options → List ℕ → List ℕ → List ℕ → Result Begun Answer
 opened_for (Some n) options tree elf input = case_begun n options
-opened_for None options tree elf input = and_then (read_asked options tree elf input) (λ asked. begun asked)
+opened_for None options tree elf input = and_then (read_asked options tree elf input) (λ asked. begins asked)
 
 abbrev pub opening : List (List ℕ) → List ℕ → List ℕ → List ℕ → Result Begun Answer
 opening words tree elf input = and_then (asked words) (λ options. opened_for options.case options tree elf input)
@@ -180,6 +244,7 @@ abbrev pub started_told : Kind → Started
 started_told (kind.Mounts k) = Mounts (table_of k.places) (machine number_of k)
 started_told (kind.Unmarked k rule) = Mounts (table_of k.places) (told_with k rule)
 started_told (kind.Traced k) = Traced (traced_machine k)
+started_told (kind.Loosely l) = Loosely l.kernel.met (traced_machine l.kernel)
 started_told (kind.Both n watched mounted) = Both n (traced_machine watched) (table_of mounted.places) (machine number_of mounted)
 
 abbrev pub begun_told : Opened → Begun
@@ -196,6 +261,7 @@ abbrev pub IsFresh : Kind → Type 0
 IsFresh (kind.Mounts k) = HasNoTurn k
 IsFresh (kind.Unmarked k rule) = HasNoTurn k
 IsFresh (kind.Traced k) = HasNoTurn k
+IsFresh (kind.Loosely l) = HasNoStep (λ keeping t. asks keeping.tracing t) plain l.kernel l.judge
 IsFresh (kind.Both n watched mounted) = HasNoTurn watched × HasNoTurn mounted
 
 -- marks are kept where it is asked whether a run is calm

@@ -1,6 +1,6 @@
 //! The opening: the words and the sources are read, bindings are settled, and the first process begins. Of a generated case both machines
 //! begin, and no source is read.
-ghost use Rattle.std.specs.Prelude.{◌≡◌, ◌⊎◌, ◌<◌, ◌^◌, None, Some, Err, IfErr, IfOk, length, map};
+ghost use Rattle.std.specs.Prelude.{◌≡◌, Bool, ◌⊎◌, ◌<◌, ◌^◌, None, Some, Err, IfErr, IfOk, length, map};
 ghost use Rattle.std.specs.String.{string_bytes};
 ghost use Rattle.pr_run.specs.pr_io.Drawn.{drawn, gave, received};
 ghost use Rattle.pr_start.specs.pr_words.Sound.{AreSound};
@@ -11,19 +11,23 @@ ghost use Rattle.pr_start.specs.pt_bind.Binding.{rows_of};
 ghost use Rattle.pr_run.specs.pr_sources.Asking.{asked};
 ghost use Rattle.pr_run.specs.pr_sources.Reading.{AreDrawn, AsksCase, EndsBeforeElf, EndsBeforeInput, HasCause, IsListed, IsOfWords, IsReadAs, IsRefusal, ReadHasCause, ReadsSources, WantsElf, read_asked};
 ghost use Rattle.pr_run.specs.pr_sources.Within.{IsAskedWithin, and_then};
-ghost use Rattle.pr_top.specs.Opening.{IsFresh, IsMarkedFor, IsOfOpening, IsOfStart, IsReadyToRun, Mounts, OpensFrom, ReadsAs, StartsAs, begun, ids_for, opening, started_as, started_on, watch_for};
+ghost use Rattle.pr_top.specs.Opening.{IsFresh, IsMarkedFor, IsOfOpening, IsOfStart, IsReadyToRun, Mounts, OpensFrom, ReadsAs, StartsAs, begins, gives_slots, ids_for, opening, Traced, slots_for, started_as, started_on, started_told, stepwise, stepwise_start, watch_for};
 ghost use Rattle.pr_start.specs.Beginning.{HasTexts, beginning};
+ghost use Rattle.pr_start.specs.TracedBeginning.{start_meets, traced_machine};
+ghost use Rattle.pr_start.specs.kr_core.Kernel.{HasNoTurn};
 
 use crate::generated::begin_case;
 use pr_gen::below::{Bytes, User};
-use pr_run::below::{Answer, Asked, BindFault, Mounted, Plain, Sink, Source, ask, read};
-use pr_run::{Plan, case_report, report};
+use pr_run::below::{
+    Answer, Asked, BindFault, Loose, Mounted, Plain, Sink, Slots, Source, ask, read,
+};
+use pr_run::{Plan, case_report, report, report_loosely};
 use pr_start::below::{Launch, Options, Rule, Stage, StartFault, settled};
 use pr_start::{Faker, Kernel, Tracer, Watch, start, start_traced, start_unmarked};
 use std::alloc::Global;
 
 /// A machine: a kernel over mounts, whose shelves are marked so that it tells whether a run is calm; or one that keeps no marks, where that
-/// isn't asked, with the rule that its start broke; or a plain kernel with its tracer; or both, for a generated case.
+/// isn't asked, with the rule that its start broke; or a plain kernel with its tracer, turn by turn or step by step; or two, for a generated case.
 pub(crate) enum Kind {
     Mounts(Kernel<Mounted, Watch, 1>),
     Unmarked {
@@ -31,6 +35,7 @@ pub(crate) enum Kind {
         broken: Option<Rule>,
     },
     Traced(Kernel<Plain, Tracer, 0>),
+    Loosely(Loose<Plain, Tracer, 0>),
     Both {
         case: u32,
         watched: Kernel<Plain, Tracer, 0>,
@@ -48,6 +53,7 @@ impl Drop for Kind {
                 broken: _broken,
             } => end_unmarked(kernel),
             Kind::Traced(kernel) => end_watched(kernel),
+            Kind::Loosely(loose) => end_loose(loose),
             Kind::Both {
                 case: _case,
                 watched,
@@ -69,6 +75,9 @@ fn end_unmarked(_kernel: Kernel<Mounted, Watch, 0>) {}
 /// Lets a plain kernel and its tracer go.
 pub(crate) fn end_watched(_kernel: Kernel<Plain, Tracer, 0>) {}
 
+/// Lets a loose run go.
+fn end_loose(_loose: Loose<Plain, Tracer, 0>) {}
+
 /// A run that has begun: its machine, and what it is made by.
 #[derive(Drop)]
 pub struct Opened {
@@ -77,8 +86,7 @@ pub struct Opened {
 }
 
 impl Opened {
-    ghost use Rattle.pr_run.specs.Puts.{AnswersReport};
-    ghost use Rattle.pr_top.specs.Opening.{IsReadyToRun, begun_told, report};
+    ghost use Rattle.pr_top.specs.Opening.{AnswersBegun, IsReadyToRun, begun_told};
 
     /// Runs it, and puts its report.
     pub fn report<O: Sink, R: Sink, L: Sink>(
@@ -89,12 +97,13 @@ impl Opened {
         left: &mut L,
     ) -> Answer
         requires { IsReadyToRun self.old }
-        ensures { AnswersReport (report (begun_told self.old)) (received O.Sink out.old out.new) (received R.Sink err.old err.new) (received L.Sink left.old left.new) result }
+        ensures { AnswersBegun (begun_told self.old) (received O.Sink out.old out.new) (received R.Sink err.old err.new) (received L.Sink left.old left.new) result }
     {
         match &mut self.kind {
             Kind::Mounts(kernel) => report(alloc, kernel, &self.plan, out, err, left),
             Kind::Unmarked { kernel, .. } => report(alloc, kernel, &self.plan, out, err, left),
             Kind::Traced(kernel) => report(alloc, kernel, &self.plan, out, err, left),
+            Kind::Loosely(loose) => report_loosely(alloc, loose, &self.plan, out, err, left),
             Kind::Both {
                 case,
                 watched,
@@ -152,10 +161,39 @@ fn start_mounted(
     }
 }
 
-/// Starts the command over mounts, or on a plain kernel with a tracer.
+/// Whether slots of single steps are given.
+fn gives_slots(loose: &Slots) -> bool
+    ensures { result ≡ gives_slots loose.now }
+{
+    !loose.is_empty()
+}
+
+/// The slots of a run: those of single steps where some are given, else those of turns.
+fn slots_for(schedule: Slots, loose: Slots) -> Slots
+    ensures { result ≡ slots_for schedule loose }
+{
+    if gives_slots(&loose) { loose } else { schedule }
+}
+
+/// A plain kernel with its tracer, turn by turn or step by step.
+fn watched_kind(alloc: Global, steps: bool, kernel: Kernel<Plain, Tracer, 0>) -> Kind
+    requires { HasNoTurn kernel }
+    ensures kind { started_told result ≡ stepwise steps kernel.met (Traced (traced_machine kernel)) }
+    ensures fresh { IsFresh result }
+    ensures marked { (calm : Bool) → IsMarkedFor calm result }
+{
+    if steps {
+        Kind::Loosely(Loose::new(alloc, kernel))
+    } else {
+        Kind::Traced(kernel)
+    }
+}
+
+/// Starts the command over mounts, or on a plain kernel with a tracer, which goes by single steps where that is asked for.
 fn start_on(
     alloc: Global,
     native: bool,
+    steps: bool,
     calm: bool,
     stage: Stage,
     launch: Launch,
@@ -165,7 +203,7 @@ fn start_on(
     requires ready { IsReady stage.tree stage.user (table_of stage.places) }
     requires texts { rows_of stage.texts ≡ texts_of (table_of stage.places) }
     requires launch { HasTexts launch }
-    ensures begins { StartsAs (started_on native (table_of stage.places) stage.tree stage.user ids launch input) result }
+    ensures begins { StartsAs (stepwise_start steps (start_meets (texts_of (table_of stage.places)) stage.tree stage.user launch) (started_on native (table_of stage.places) stage.tree stage.user ids launch input)) result }
     ensures fresh { IfOk result IsFresh }
     ensures marked { IfOk result (IsMarkedFor calm) }
 {
@@ -174,7 +212,7 @@ fn start_on(
         start_mounted(alloc, calm, stage, launch, input, watch)
     } else {
         match start_traced(alloc, stage, launch, input, ids) {
-            Ok(kernel) => Ok(Kind::Traced(kernel)),
+            Ok(kernel) => Ok(watched_kind(alloc, steps, kernel)),
             Err(fault) => Err(fault),
         }
     }
@@ -184,7 +222,7 @@ fn start_on(
 fn begin(alloc: Global, asked: Asked) -> Result<Opened, Answer>
     requires sound { AreSound asked.options }
     requires listing { IsOfListing asked.tree asked.user }
-    ensures begun { OpensFrom (begun asked) result }
+    ensures begun { OpensFrom (begins asked) result }
     ensures kinds { IfErr result IsOfStart }
     ensures ready { IfOk result (λ opened. IsReadyToRun opened) }
 {
@@ -194,9 +232,10 @@ fn begin(alloc: Global, asked: Asked) -> Result<Opened, Answer>
         user,
         input,
     } = asked;
+    let steps = gives_slots(&options.loose);
     let plan = Plan {
         turns: options.turns,
-        schedule: options.schedule,
+        schedule: slots_for(options.schedule, options.loose),
         calm: options.calm,
         user,
     };
@@ -220,6 +259,7 @@ fn begin(alloc: Global, asked: Asked) -> Result<Opened, Answer>
     let kind = start_on(
         alloc,
         options.native,
+        steps,
         options.calm,
         stage,
         launch,
@@ -242,7 +282,7 @@ fn open_sources<T: Source, E: Source, I: Source>(
     input: &mut I,
 ) -> Result<Opened, Answer>
     requires { AreSound options }
-    ensures opens { OpensFrom (and_then (read_asked options (gave (drawn T.Source tree.old tree.new)) (gave (drawn E.Source elf.old elf.new)) (gave (drawn I.Source input.old input.new))) (λ asked. begun asked)) result }
+    ensures opens { OpensFrom (and_then (read_asked options (gave (drawn T.Source tree.old tree.new)) (gave (drawn E.Source elf.old elf.new)) (gave (drawn I.Source input.old input.new))) (λ asked. begins asked)) result }
     ensures read { ReadsAs (read_asked options (gave (drawn T.Source tree.old tree.new)) (gave (drawn E.Source elf.old elf.new)) (gave (drawn I.Source input.old input.new))) result }
     ensures ready { IfOk result (λ opened. IsReadyToRun opened) }
     ensures kinds { IfErr result IsOfOpening }

@@ -1,19 +1,19 @@
 -- Settings that are spelled in words are read from them.
 use Rattle.std.proofs.Common.{◌≡◌, ◌≢◌, ℕ, ◌+◌, List, [], ◌∷◌, ◌++◌, length, map, reverse, Bool, true, false, Option, Some, None, Result, Ok, refl, sym, ap, ◌∙◌, subst, arith, All, append_assoc, inl, inr}
-use Rattle.std.specs.Prelude.{codes, nat_eq, nat_lt, is_some, not}
+use Rattle.std.specs.Prelude.{codes, nat_eq, nat_lt, is_some, not, if◌then◌else◌}
 use Rattle.std.specs.List.{list_all, starts_with, position, position_or_len}
 use Rattle.std.specs.Option.{option_map}
 use Rattle.std.proofs.lemmas.Bool.{and_parts, ne_eqb, le-ltb}
 use Rattle.std.proofs.lemmas.List.{reverse-append}
 use Rattle.std.proofs.lemmas.List.Elements.{All-nil, All-cons, All-head, All-tail, All-append}
-use Rattle.pr_words.specs.declared.fault.Why.TheVariants.{ZeroByte, CaseAlone, CalmAlone}
+use Rattle.pr_words.specs.declared.fault.Why.TheVariants.{ZeroByte, CaseAlone, CalmAlone, LooseAlone}
 use Rattle.pr_words.specs.declared.fault.WordsFault.{WordsFault}
 use Rattle.pr_words.specs.declared.options.Options.{Options}
 use Rattle.pr_words.specs.declared.setting.Setting.{Setting}
 use Rattle.pr_words.specs.declared.spelling.Spelled.TheVariants.{Command as CommandWord}
 use Rattle.pr_words.specs.Spelling.{spelling_of}
-use Rattle.pr_words.specs.Meaning.{latest, or_earlier, case_in, calm_in, native_in, options_of}
-use Rattle.pr_words.specs.Reading.{WithValue, Then, line_of, setting_of, is_again, or_twice, told, Given, settings_of, first_place, is_beside_case, is_calm, case_alone, calm_alone, broken_at, ended, accepted, has_zero}
+use Rattle.pr_words.specs.Meaning.{latest, or_earlier, case_in, calm_in, loose_in, native_in, options_of}
+use Rattle.pr_words.specs.Reading.{WithValue, Then, line_of, setting_of, is_again, or_twice, told, Given, settings_of, first_place, is_beside_case, is_loose, case_alone, calm_alone, excludes_loose, loose_alone, broken_at, ended, accepted, has_zero}
 use Rattle.pr_words.specs.Sound.{IsText}
 use Rattle.pr_words.specs.ReadBack.{word_of, kind_of, IsPlain, ArePlain, StandTogether, BeginsPlainly, OptionsAreReadBack}
 use Rattle.pr_words.proofs.SoundLemmas.{accepted_step}
@@ -68,15 +68,15 @@ none_other (g ∷ given) h =
     let p = and_parts (is_beside_case g.setting) (list_all is_beside_case (settings_of given)) h in
     rw (none_other given p.1, p.0) refl
 
-none_calm : (given : List Given) → is_some (latest calm_in (settings_of given)) ≡ false → first_place is_calm given ≡ None
-none_calm [] h = refl
-none_calm (g ∷ given) h = by_pick (none_calm given) (calm_in g.setting) refl
+none_picked : {A : Type 0} (picks : Setting → Option A) (given : List Given) → is_some (latest picks (settings_of given)) ≡ false → first_place (λ s. is_some (picks s)) given ≡ None
+none_picked picks [] h = refl
+none_picked {A} picks (g ∷ given) h = by_pick (none_picked picks given) (picks g.setting) refl
   where
-    by_pick : (is_some (latest calm_in (settings_of given)) ≡ false → first_place is_calm given ≡ None) → (o : Option (Unit {0})) → calm_in g.setting ≡ o → first_place is_calm (g ∷ given) ≡ None
+    by_pick : (is_some (latest picks (settings_of given)) ≡ false → first_place (λ s. is_some (picks s)) given ≡ None) → (o : Option A) → picks g.setting ≡ o → first_place (λ s. is_some (picks s)) (g ∷ given) ≡ None
     by_pick rest None e =
-        let later : is_some (latest calm_in (settings_of given)) ≡ false = subst (λ o. is_some (or_earlier o (latest calm_in (settings_of given))) ≡ false) e h in
+        let later : is_some (latest picks (settings_of given)) ≡ false = subst (λ o. is_some (or_earlier o (latest picks (settings_of given))) ≡ false) e h in
         rw (rest later, e) refl
-    by_pick rest (Some x) e = absurd (let yes = subst (λ o. is_some (or_earlier o (latest calm_in (settings_of given))) ≡ false) e h in cc)
+    by_pick rest (Some x) e = absurd (let yes = subst (λ o. is_some (or_earlier o (latest picks (settings_of given))) ≡ false) e h in cc)
 
 case_stands : (given : List Given) (n : ℕ) (command : List (List ℕ)) → StandTogether (settings_of given) command → case_alone given n command ≡ None
 case_stands given n command stand = by_case (is_some (latest case_in (settings_of given))) refl
@@ -93,12 +93,24 @@ calm_stands given command stand = by_case (is_some (latest native_in (settings_o
     by_case : (b : Bool) → is_some (latest native_in (settings_of given)) ≡ b → (c : Bool) → is_some (latest calm_in (settings_of given)) ≡ c → calm_alone given ≡ None
     by_case true h c e = rw h refl
     by_case false h true e = absurd (let yes = stand.calm_native e in cc)
-    by_case false h false e = rw h (none_calm given e)
+    by_case false h false e = rw h (none_picked calm_in given e)
+
+if_none : (b : Bool) (place : Option ℕ) → place ≡ None → (if b then place else None) ≡ None
+if_none true place none = none
+if_none false place none = refl
+
+loose_stands : (given : List Given) (command : List (List ℕ)) → StandTogether (settings_of given) command → loose_alone given ≡ None
+loose_stands given command stand = by_case (is_some (latest loose_in (settings_of given))) refl
+  where
+    by_case : (b : Bool) → is_some (latest loose_in (settings_of given)) ≡ b → loose_alone given ≡ None
+    by_case true h = ap (λ b. if b then first_place is_loose given else None) (stand.loose_alone h)
+    by_case false h = if_none (excludes_loose (settings_of given)) (first_place is_loose given) (none_picked loose_in given h)
 
 ended_back : (given : List Given) (n : ℕ) (command : List (List ℕ)) → StandTogether (settings_of given) command → ended given n command ≡ Ok (options_of (settings_of given) command)
 ended_back given n command stand =
-    ap (λ o. broken_at o CaseAlone (broken_at (calm_alone given) CalmAlone (Ok (options_of (settings_of given) command)))) (case_stands given n command stand)
-    ∙ ap (λ o. broken_at o CalmAlone (Ok (options_of (settings_of given) command))) (calm_stands given command stand)
+    ap (λ o. broken_at o CaseAlone (broken_at (calm_alone given) CalmAlone (broken_at (loose_alone given) LooseAlone (Ok (options_of (settings_of given) command))))) (case_stands given n command stand)
+    ∙ ap (λ o. broken_at o CalmAlone (broken_at (loose_alone given) LooseAlone (Ok (options_of (settings_of given) command)))) (calm_stands given command stand)
+    ∙ ap (λ o. broken_at o LooseAlone (Ok (options_of (settings_of given) command))) (loose_stands given command stand)
 
 -- ---- no zero bytes
 

@@ -5,11 +5,11 @@ use Rattle.pr_words.specs.declared.fault.Why.{Why}
 use Rattle.pr_words.specs.declared.fault.WordsFault.{WordsFault}
 use Rattle.pr_words.specs.declared.fault.WordsFault.TheVariants.{Usage}
 use Rattle.pr_words.specs.declared.kind.Kind.{Kind}
-use Rattle.pr_words.specs.declared.kind.Kind.TheVariants.{Root, Bind, Directory, RootId, ChangeId, Variable, Turns, Schedule, Native, Calm, Case}
+use Rattle.pr_words.specs.declared.kind.Kind.TheVariants.{Root, Bind, Directory, RootId, ChangeId, Variable, Turns, Schedule, Loose, Native, Calm, Case}
 use Rattle.pr_words.specs.declared.spelling.Spelled.{Spelled}
 use Rattle.pr_words.specs.declared.spelling.Spelled.TheVariants.{Command as CommandWord, Unknown as UnknownWord, Flag, Short, Lacking, Long}
 use Rattle.pr_words.specs.declared.setting.Setting.{Setting}
-use Rattle.pr_words.specs.declared.setting.Setting.TheVariants.{Root as RootSetting, Bind as BindSetting, Directory as DirectorySetting, RootId as RootIdSetting, ChangeId as ChangeIdSetting, Variable as VariableSetting, Turns as TurnsSetting, Schedule as ScheduleSetting, Native as NativeSetting, Calm as CalmSetting, Case as CaseSetting}
+use Rattle.pr_words.specs.declared.setting.Setting.TheVariants.{Root as RootSetting, Bind as BindSetting, Directory as DirectorySetting, RootId as RootIdSetting, ChangeId as ChangeIdSetting, Variable as VariableSetting, Turns as TurnsSetting, Schedule as ScheduleSetting, Loose as LooseSetting, Native as NativeSetting, Calm as CalmSetting, Case as CaseSetting}
 use Rattle.pr_words.specs.declared.options.Options.{Options}
 use Rattle.pr_words.specs.declared.so_far.SoFar.{SoFar}
 use Rattle.pr_words.specs.Spelling.{spelling_of, own_value}
@@ -58,6 +58,7 @@ again_same ChangeId given = refl
 again_same Variable given = refl
 again_same Turns given = refl
 again_same Schedule given = refl
+again_same Loose given = refl
 again_same Native given = refl
 again_same Calm given = refl
 again_same Case given = refl
@@ -71,6 +72,7 @@ added_same n (ChangeIdSetting uid gid) given = refl
 added_same n (VariableSetting text) given = refl
 added_same n (TurnsSetting turns) given = refl
 added_same n (ScheduleSetting slots) given = refl
+added_same n (LooseSetting slots) given = refl
 added_same n NativeSetting given = refl
 added_same n CalmSetting given = refl
 added_same n (CaseSetting number) given = refl

@@ -6,15 +6,15 @@ use Rattle.std.proofs.lemmas.Bool.{or_parts, eqb-false}
 use Rattle.std.proofs.lemmas.List.Elements.{All-nil, All-cons, All-head, All-tail, All-push, All-weaker}
 use Rattle.pr_base.specs.declared.bind.Bind.{Bind as OneBind}
 use Rattle.pr_words.specs.declared.fault.Why.{Why}
-use Rattle.pr_words.specs.declared.fault.Why.TheVariants.{BadEnv, BadNumber, BadBind, BadSchedule, BadId, CalmAlone, CaseAlone}
+use Rattle.pr_words.specs.declared.fault.Why.TheVariants.{BadEnv, BadNumber, BadBind, BadSchedule, BadId, CalmAlone, CaseAlone, LooseAlone}
 use Rattle.pr_words.specs.declared.fault.WordsFault.{WordsFault}
 use Rattle.pr_words.specs.declared.fault.WordsFault.TheVariants.{Usage}
 use Rattle.pr_words.specs.declared.kind.Kind.{Kind}
-use Rattle.pr_words.specs.declared.kind.Kind.TheVariants.{Root, Bind, Directory, RootId, ChangeId, Variable, Turns, Schedule, Native, Calm, Case}
+use Rattle.pr_words.specs.declared.kind.Kind.TheVariants.{Root, Bind, Directory, RootId, ChangeId, Variable, Turns, Schedule, Loose, Native, Calm, Case}
 use Rattle.pr_words.specs.declared.spelling.Spelled.{Spelled}
 use Rattle.pr_words.specs.declared.spelling.Spelled.TheVariants.{Command as CommandWord, Unknown as UnknownWord, Flag, Short, Lacking, Long}
 use Rattle.pr_words.specs.declared.setting.Setting.{Setting}
-use Rattle.pr_words.specs.declared.setting.Setting.TheVariants.{Root as RootSetting, Bind as BindSetting, Directory as DirectorySetting, RootId as RootIdSetting, ChangeId as ChangeIdSetting, Variable as VariableSetting, Turns as TurnsSetting, Schedule as ScheduleSetting, Native as NativeSetting, Calm as CalmSetting, Case as CaseSetting}
+use Rattle.pr_words.specs.declared.setting.Setting.TheVariants.{Root as RootSetting, Bind as BindSetting, Directory as DirectorySetting, RootId as RootIdSetting, ChangeId as ChangeIdSetting, Variable as VariableSetting, Turns as TurnsSetting, Schedule as ScheduleSetting, Loose as LooseSetting, Native as NativeSetting, Calm as CalmSetting, Case as CaseSetting}
 use Rattle.pr_words.specs.declared.options.Options.{Options}
 use Rattle.pr_words.specs.declared.options.Slot.{Slot}
 use Rattle.pr_words.specs.Answers.{IsAnswer}
@@ -22,8 +22,8 @@ use Rattle.pr_words.specs.Spelling.{spelling_of}
 use Rattle.pr_words.specs.Values.{is_variable, largest_id, turns_of, case_of, ids_of, schedule_of, binding_of}
 use Rattle.pr_words.specs.Variables.{same_name, with_variable}
 use Rattle.pr_words.specs.Values.{variable_name}
-use Rattle.pr_words.specs.Meaning.{latest, or_earlier, root_in, directory_in, ids_in, turns_in, schedule_in, case_in, binds_of, variables_of, options_of}
-use Rattle.pr_words.specs.Reading.{Asked, NoSuch, WithoutValue, WithValue, Line, Then, Command, line_of, with_next, bind_setting, setting_of, is_again, or_twice, told, Given, settings_of, case_alone, calm_alone, broken_at, accepted, has_zero, reading_of}
+use Rattle.pr_words.specs.Meaning.{latest, or_earlier, root_in, directory_in, ids_in, turns_in, schedule_in, loose_in, case_in, binds_of, variables_of, options_of}
+use Rattle.pr_words.specs.Reading.{Asked, NoSuch, WithoutValue, WithValue, Line, Then, Command, line_of, with_next, bind_setting, setting_of, is_again, or_twice, told, Given, settings_of, case_alone, calm_alone, loose_alone, broken_at, accepted, has_zero, reading_of}
 use Rattle.pr_words.specs.Sound.{IsText, IsBinding, AreNumbered, IsSlot, IsVariable, AreSound}
 use Rattle.pr_words.proofs.PositionLemmas.{none_passes}
 use Rattle.pr_words.proofs.ValueLemmas.{ok_map, number_in, ids_in_range, schedule_in_range, own_value_text, binding_in_range}
@@ -39,6 +39,7 @@ IsSetting (ChangeIdSetting uid gid) = (uid ≤ largest_id) × (gid ≤ largest_i
 IsSetting (VariableSetting text) = IsVariable text
 IsSetting (TurnsSetting n) = (1 ≤ n) × (n ≤ 10000000)
 IsSetting (ScheduleSetting slots) = (length slots ≤ 1024) × All IsSlot slots
+IsSetting (LooseSetting slots) = (length slots ≤ 1024) × All IsSlot slots
 IsSetting NativeSetting = Unit {0}
 IsSetting CalmSetting = Unit {0}
 IsSetting (CaseSetting n) = n ≤ 65535
@@ -59,6 +60,7 @@ setting_is ChangeId value s clean e = let (ids, read, same) = ok_map (ids_of val
 setting_is Variable value s clean e = variable_is value s (is_variable value) refl clean e
 setting_is Turns value s clean e = let (n, read, same) = ok_map (turns_of value) _ BadNumber s e in subst IsSetting same (number_in 8 1 10000000 value n read)
 setting_is Schedule value s clean e = let (slots, read, same) = ok_map (schedule_of value) _ BadSchedule s e in subst IsSetting same (schedule_in_range value slots read)
+setting_is Loose value s clean e = let (slots, read, same) = ok_map (schedule_of value) _ BadSchedule s e in subst IsSetting same (schedule_in_range value slots read)
 setting_is Native value s clean e = let same : NativeSetting ≡ s = cc in subst IsSetting same tt
 setting_is Calm value s clean e = let same : CalmSetting ≡ s = cc in subst IsSetting same tt
 setting_is Case value s clean e = let (n, read, same) = ok_map (case_of value) _ BadNumber s e in subst IsSetting same (number_in 8 0 65535 value n read).1
@@ -148,6 +150,10 @@ schedule_is : (s : Setting) (x : List Slot) → IsSetting s → schedule_in s �
 schedule_is (ScheduleSetting slots) x is e = let same : slots ≡ x = cc in subst AreSlots same is
 schedule_is s x is e = absurd (cc)
 
+loose_is : (s : Setting) (x : List Slot) → IsSetting s → loose_in s ≡ Some x → AreSlots x
+loose_is (LooseSetting slots) x is e = let same : slots ≡ x = cc in subst AreSlots same is
+loose_is s x is e = absurd (cc)
+
 abbrev IsCase : ℕ → Type 0
 IsCase n = n ≤ 65535
 
@@ -201,6 +207,7 @@ options_are : (settings : List Setting) (command : List (List ℕ)) → AreSetti
 options_are settings command all words =
     let turns = or_default AreTurns (latest turns_in settings) 1000000 (latest_is AreTurns turns_in turns_are settings all) (omega arith, omega arith) in
     let slots = or_default AreSlots (latest schedule_in settings) [] (latest_is AreSlots schedule_in schedule_is settings all) (omega arith, All-nil IsSlot) in
+    let loose = or_default AreSlots (latest loose_in settings) [] (latest_is AreSlots loose_in loose_is settings all) (omega arith, All-nil IsSlot) in
     record {
       root = or_default IsText (latest root_in settings) (codes "/") (latest_is IsText root_in root_is settings all) slash_is;
       binds = binds_are settings all;
@@ -212,6 +219,8 @@ options_are settings command all words =
       turns = turns.1;
       schedule = slots.1;
       slots = slots.0;
+      loose = loose.1;
+      loose_slots = loose.0;
       case = latest_is IsCase case_in case_is settings all;
       command = words;
     }
@@ -247,8 +256,9 @@ accepted_fault given n asked line why h = accepted-then given n asked line ∙ a
 accepted_are : (given : List Given) (line : Line) (o : Options) → AreSettings (settings_of given) → IsLine line → accepted given line ≡ Ok o → AreSound o
 unfolding accepted
 accepted_are given (Command n command) o all is e =
-    let rest = not_broken (case_alone given n command) CaseAlone (broken_at (calm_alone given) CalmAlone (Ok (options_of (settings_of given) command))) o e in
-    let whole = not_broken (calm_alone given) CalmAlone (Ok (options_of (settings_of given) command)) o rest in
+    let rest = not_broken (case_alone given n command) CaseAlone (broken_at (calm_alone given) CalmAlone (broken_at (loose_alone given) LooseAlone (Ok (options_of (settings_of given) command)))) o e in
+    let more = not_broken (calm_alone given) CalmAlone (broken_at (loose_alone given) LooseAlone (Ok (options_of (settings_of given) command))) o rest in
+    let whole = not_broken (loose_alone given) LooseAlone (Ok (options_of (settings_of given) command)) o more in
     let same : options_of (settings_of given) command ≡ o = cc in
     subst AreSound same (options_are (settings_of given) command all is)
 accepted_are given (Then n asked line) o all is e = by_told (λ setting. accepted_are (record { place = n; setting = setting } ∷ given) line o) (told (settings_of given) asked) refl

@@ -11,11 +11,11 @@ use Rattle.std.proofs.lemmas.List.Elements.{All-nil, All-cons, All-head, All-tai
 use Rattle.std.proofs.lemmas.List.Splits.{slice_split_at, slice_split_none}
 use Rattle.std.proofs.lemmas.Fmt.{digits_decimal, digits_value-decimal, decimal_nonempty, length-decimal-le}
 use Rattle.pr_words.specs.declared.kind.Kind.{Kind}
-use Rattle.pr_words.specs.declared.kind.Kind.TheVariants.{Root as RootKind, Bind as BindKind, Directory as DirectoryKind, ChangeId as ChangeIdKind, Variable as VariableKind, Turns as TurnsKind, Schedule as ScheduleKind, Case as CaseKind}
+use Rattle.pr_words.specs.declared.kind.Kind.TheVariants.{Root as RootKind, Bind as BindKind, Directory as DirectoryKind, ChangeId as ChangeIdKind, Variable as VariableKind, Turns as TurnsKind, Schedule as ScheduleKind, Loose as LooseKind, Case as CaseKind}
 use Rattle.pr_words.specs.declared.spelling.Spelled.TheVariants.{Long, Flag}
 use Rattle.pr_words.specs.declared.options.Slot.{Slot}
 use Rattle.pr_words.specs.declared.setting.Setting.{Setting}
-use Rattle.pr_words.specs.declared.setting.Setting.TheVariants.{Root, Bind, Directory, RootId, ChangeId, Variable, Turns, Schedule, Native, Calm, Case}
+use Rattle.pr_words.specs.declared.setting.Setting.TheVariants.{Root, Bind, Directory, RootId, ChangeId, Variable, Turns, Schedule, Loose, Native, Calm, Case}
 use Rattle.pr_words.specs.declared.fault.Why.TheVariants.{BadBind, BadId, BadNumber, BadSchedule}
 use Rattle.pr_words.specs.Spelling.{cut_at, long_named, spelling_of, by_name, own_value, second_or_none}
 use Rattle.pr_words.specs.Values.{is_digit, is_numeral, number_of, id_of, ids_of, largest_id, slot_of, slots_of, schedule_of, without_mark, binding_of, is_variable}
@@ -201,6 +201,7 @@ value_of (ChangeId uid gid) = decimal uid ++ (58 ∷ decimal gid)
 value_of (Variable text) = text
 value_of (Turns n) = decimal n
 value_of (Schedule slots) = join_with_byte 44 (map slot_text slots)
+value_of (Loose slots) = join_with_byte 44 (map slot_text slots)
 value_of Native = []
 value_of Calm = []
 value_of (Case n) = decimal n
@@ -218,6 +219,7 @@ word_gives (ChangeId uid gid) = inl (plain_name (codes "--change-id") (decimal u
 word_gives (Variable text) = inl (plain_name (codes "--env") text VariableKind (lacks_equals (codes "--env") refl) refl refl)
 word_gives (Turns n) = inl (plain_name (codes "--turns") (decimal n) TurnsKind (lacks_equals (codes "--turns") refl) refl refl)
 word_gives (Schedule slots) = inl (plain_name (codes "--schedule") (join_with_byte 44 (map slot_text slots)) ScheduleKind (lacks_equals (codes "--schedule") refl) refl refl)
+word_gives (Loose slots) = inl (plain_name (codes "--loose") (join_with_byte 44 (map slot_text slots)) LooseKind (lacks_equals (codes "--loose") refl) refl refl)
 word_gives Native = inr (refl, refl)
 word_gives Calm = inr (refl, refl)
 word_gives (Case n) = inl (plain_name (codes "--case") (decimal n) CaseKind (lacks_equals (codes "--case") refl) refl refl)
@@ -232,6 +234,7 @@ setting_back (ChangeId uid gid) is = ap (λ (o : Option (ℕ × ℕ)). ok_or (op
 setting_back (Variable text) is = let h : is_variable text ≡ true = is.has_name in rw h refl
 setting_back (Turns n) is = ap (λ o. ok_or (option_map Turns o) BadNumber) (number_of-decimal 8 1 10000000 n (omega arith) (lit< tt) (lit< tt) is.0 is.1)
 setting_back (Schedule slots) is = ap (λ o. ok_or (option_map Schedule o) BadSchedule) (schedule_back slots is.0 is.1 is.2)
+setting_back (Loose slots) is = ap (λ o. ok_or (option_map Loose o) BadSchedule) (schedule_back slots is.0 is.1 is.2)
 setting_back Native is = refl
 setting_back Calm is = refl
 setting_back (Case n) is = ap (λ o. ok_or (option_map Case o) BadNumber) (number_of-decimal 8 0 65535 n (omega arith) (lit< tt) (lit< tt) (omega arith) is)
@@ -278,6 +281,7 @@ word_is_text (ChangeId uid gid) is =
 word_is_text (Variable text) is = named_text (codes "--env") text refl is.is_text
 word_is_text (Turns n) is = let high = is.1 in named_text (codes "--turns") (decimal n) refl (decimal_text n (omega (arith, high)))
 word_is_text (Schedule slots) is = named_text (codes "--schedule") (join_with_byte 44 (map slot_text slots)) refl (slots_are_text slots is.2)
+word_is_text (Loose slots) is = named_text (codes "--loose") (join_with_byte 44 (map slot_text slots)) refl (slots_are_text slots is.2)
 word_is_text Native is = is_text (codes "--native") refl
 word_is_text Calm is = is_text (codes "--calm") refl
 word_is_text (Case n) is = named_text (codes "--case") (decimal n) refl (decimal_text n (omega (arith, is)))

@@ -2,7 +2,7 @@
 use Rattle.std.proofs.Common.{◌≡◌, ℕ, [], ◌∷◌, Result, Ok, Err, Some, None, true, false, refl}
 use Rattle.std.specs.Prelude.{codes}
 use Rattle.pr_words.specs.declared.fault.Why.{Why}
-use Rattle.pr_words.specs.declared.fault.Why.TheVariants.{Unknown, NoValue, BadNumber, BadSchedule, BadBind, BadEnv, Twice, CalmAlone, CaseAlone, ZeroByte, BadId}
+use Rattle.pr_words.specs.declared.fault.Why.TheVariants.{Unknown, NoValue, BadNumber, BadSchedule, BadBind, BadEnv, Twice, CalmAlone, CaseAlone, ZeroByte, BadId, LooseAlone}
 use Rattle.pr_words.specs.declared.fault.WordsFault.{WordsFault}
 use Rattle.pr_words.specs.declared.fault.WordsFault.TheVariants.{Usage}
 use Rattle.pr_words.specs.declared.options.Options.{Options}
@@ -84,10 +84,26 @@ case_before_calm : reading_of (codes "--calm" ∷ codes "--case=1" ∷ []) ≡ u
 unfolding line_of with_next accepted
 case_before_calm = refl
 
+loose_before_native : reading_of (codes "--loose=0*1" ∷ codes "--native" ∷ codes "/p" ∷ []) ≡ usage 1 LooseAlone
+unfolding line_of with_next accepted
+loose_before_native = refl
+
+loose_behind_root_id : reading_of (codes "-0" ∷ codes "--loose=0*1" ∷ []) ≡ usage 2 LooseAlone
+unfolding line_of with_next accepted
+loose_behind_root_id = refl
+
+loose_without_fuel : reading_of (codes "--loose=1" ∷ codes "/p" ∷ []) ≡ usage 1 BadSchedule
+unfolding line_of with_next accepted
+loose_without_fuel = refl
+
+calm_before_loose : reading_of (codes "--loose=0*1" ∷ codes "--schedule=0*1" ∷ codes "--calm" ∷ []) ≡ usage 3 CalmAlone
+unfolding line_of with_next accepted
+calm_before_loose = refl
+
 -- ---- words are accepted
 
 abbrev no_words : Options
-no_words = record { root = codes "/"; binds = []; cwd = codes "/"; ids = None; env = []; turns = 1000000; schedule = []; native = false; calm = false; case = None; command = [] }
+no_words = record { root = codes "/"; binds = []; cwd = codes "/"; ids = None; env = []; turns = 1000000; schedule = []; loose = []; native = false; calm = false; case = None; command = [] }
 
 nothing_asked : reading_of [] ≡ Ok no_words
 unfolding line_of with_next accepted
@@ -112,3 +128,7 @@ two_bindings = refl
 two_slots : reading_of (codes "--schedule=255*100000,0*01" ∷ codes "--turns=10000000" ∷ codes "--case=65535" ∷ []) ≡ Ok (record no_words { schedule = record { pick = 255; fuel = 100000 } ∷ record { pick = 0; fuel = 1 } ∷ []; turns = 10000000; case = Some 65535 })
 unfolding line_of with_next accepted
 two_slots = refl
+
+two_steps : reading_of (codes "--loose=1*1000,255*1" ∷ codes "--turns=4" ∷ codes "/p" ∷ []) ≡ Ok (record no_words { loose = record { pick = 1; fuel = 1000 } ∷ record { pick = 255; fuel = 1 } ∷ []; turns = 4; command = codes "/p" ∷ [] })
+unfolding line_of with_next accepted
+two_steps = refl

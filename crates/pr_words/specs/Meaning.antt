@@ -4,7 +4,7 @@ use Rattle.pr_base.specs.declared.bind.Bind.{Bind}
 use Rattle.pr_words.specs.declared.options.Slot.{Slot}
 use Rattle.pr_words.specs.declared.options.Options.{Options}
 use Rattle.pr_words.specs.declared.setting.Setting.{Setting}
-use Rattle.pr_words.specs.declared.setting.Setting.TheVariants.{Root, Bind as BindSetting, Directory, RootId, ChangeId, Variable, Turns, Schedule, Native, Calm, Case}
+use Rattle.pr_words.specs.declared.setting.Setting.TheVariants.{Root, Bind as BindSetting, Directory, RootId, ChangeId, Variable, Turns, Schedule, Loose, Native, Calm, Case}
 use Rattle.pr_words.specs.Bindings.{with_bind}
 use Rattle.pr_words.specs.Variables.{with_variable}
 
@@ -45,6 +45,10 @@ abbrev pub schedule_in : Setting → Option (List Slot)
 schedule_in (Schedule slots) = Some slots
 schedule_in s = None
 
+abbrev pub loose_in : Setting → Option (List Slot)
+loose_in (Loose slots) = Some slots
+loose_in s = None
+
 abbrev pub case_in : Setting → Option ℕ
 case_in (Case n) = Some n
 case_in s = None
@@ -82,6 +86,7 @@ options_of given command = record {
   env = variables_of given;
   turns = unwrap_or (latest turns_in given) 1000000;
   schedule = unwrap_or (latest schedule_in given) [];
+  loose = unwrap_or (latest loose_in given) [];
   native = is_some (latest native_in given);
   calm = is_some (latest calm_in given);
   case = latest case_in given;

@@ -3,13 +3,13 @@ use Rattle.std.specs.Prelude.{◌≡◌, ◌≢◌, ℕ, ◌≤◌, ◌<◌, nat
 use Rattle.std.specs.List.{All, list_all, starts_with, ends_with, join_with_byte}
 use Rattle.std.specs.Fmt.{decimal}
 use Rattle.pr_words.specs.declared.kind.Kind.{Kind}
-use Rattle.pr_words.specs.declared.kind.Kind.TheVariants.{Root as RootKind, Bind as BindKind, Directory as DirectoryKind, RootId as RootIdKind, ChangeId as ChangeIdKind, Variable as VariableKind, Turns as TurnsKind, Schedule as ScheduleKind, Native as NativeKind, Calm as CalmKind, Case as CaseKind}
+use Rattle.pr_words.specs.declared.kind.Kind.TheVariants.{Root as RootKind, Bind as BindKind, Directory as DirectoryKind, RootId as RootIdKind, ChangeId as ChangeIdKind, Variable as VariableKind, Turns as TurnsKind, Schedule as ScheduleKind, Loose as LooseKind, Native as NativeKind, Calm as CalmKind, Case as CaseKind}
 use Rattle.pr_words.specs.declared.options.Slot.{Slot}
 use Rattle.pr_words.specs.declared.setting.Setting.{Setting}
-use Rattle.pr_words.specs.declared.setting.Setting.TheVariants.{Root, Bind, Directory, RootId, ChangeId, Variable, Turns, Schedule, Native, Calm, Case}
+use Rattle.pr_words.specs.declared.setting.Setting.TheVariants.{Root, Bind, Directory, RootId, ChangeId, Variable, Turns, Schedule, Loose, Native, Calm, Case}
 use Rattle.pr_words.specs.Values.{largest_id}
-use Rattle.pr_words.specs.Meaning.{latest, case_in, calm_in, native_in, options_of}
-use Rattle.pr_words.specs.Reading.{is_again, is_beside_case, reading_of}
+use Rattle.pr_words.specs.Meaning.{latest, case_in, calm_in, loose_in, native_in, options_of}
+use Rattle.pr_words.specs.Reading.{excludes_loose, is_again, is_beside_case, reading_of}
 use Rattle.pr_words.specs.Sound.{IsText, IsSlot, IsVariable}
 
 -- ---- the words of a setting, in its option's long form
@@ -30,6 +30,7 @@ word_of (ChangeId uid gid) = codes "--change-id" ++ (61 ∷ (decimal uid ++ (58 
 word_of (Variable text) = codes "--env" ++ (61 ∷ text)
 word_of (Turns n) = codes "--turns" ++ (61 ∷ decimal n)
 word_of (Schedule slots) = codes "--schedule" ++ (61 ∷ join_with_byte 44 (map slot_text slots))
+word_of (Loose slots) = codes "--loose" ++ (61 ∷ join_with_byte 44 (map slot_text slots))
 word_of Native = codes "--native"
 word_of Calm = codes "--calm"
 word_of (Case n) = codes "--case" ++ (61 ∷ decimal n)
@@ -43,6 +44,7 @@ kind_of (ChangeId uid gid) = ChangeIdKind
 kind_of (Variable text) = VariableKind
 kind_of (Turns n) = TurnsKind
 kind_of (Schedule slots) = ScheduleKind
+kind_of (Loose slots) = LooseKind
 kind_of Native = NativeKind
 kind_of Calm = CalmKind
 kind_of (Case n) = CaseKind
@@ -68,6 +70,7 @@ IsPlain (ChangeId uid gid) = (uid ≤ largest_id) × (gid ≤ largest_id)
 IsPlain (Variable text) = IsVariable text
 IsPlain (Turns n) = (1 ≤ n) × (n ≤ 10000000)
 IsPlain (Schedule slots) = (1 ≤ length slots) × (length slots ≤ 1024) × All IsSlot slots
+IsPlain (Loose slots) = (1 ≤ length slots) × (length slots ≤ 1024) × All IsSlot slots
 IsPlain Native = Unit {0}
 IsPlain Calm = Unit {0}
 IsPlain (Case n) = n ≤ 65535
@@ -77,10 +80,11 @@ abbrev pub ArePlain : List Setting → List Setting → Type 0
 ArePlain earlier [] = Unit {0}
 ArePlain earlier (s ∷ more) = IsPlain s × (is_again (kind_of s) earlier ≡ false) × ArePlain (s ∷ earlier) more
 
--- `--case` stands with `--turns` and `--schedule` alone, and `--calm` with `--native`
+-- `--case` stands with `--turns` and `--schedule` alone, `--calm` with `--native`, and `--loose` with no option that excludes it
 pub record StandTogether (settings : List Setting) (command : List (List ℕ)) : Type 0 where
   pub case_alone : is_some (latest case_in settings) ≡ true → (list_all is_beside_case settings ≡ true) × (command ≡ [])
   pub calm_native : is_some (latest calm_in settings) ≡ true → is_some (latest native_in settings) ≡ true
+  pub loose_alone : is_some (latest loose_in settings) ≡ true → excludes_loose settings ≡ false
 
 -- its first word doesn't begin with `-`
 abbrev pub BeginsPlainly : List (List ℕ) → Type 0

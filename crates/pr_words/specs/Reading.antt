@@ -1,21 +1,21 @@
 -- The words of a command line: the options and the command in them, and the first word that breaks a rule.
-use Rattle.std.specs.Prelude.{ℕ, ◌+◌, nat_eq, Bool, true, false, not, List, [], ◌∷◌, map, Option, Some, None, is_some, Result, Ok, Err, ok_or, if◌then◌else◌}
+use Rattle.std.specs.Prelude.{ℕ, ◌+◌, nat_eq, Bool, true, false, not, ◌||◌, List, [], ◌∷◌, map, Option, Some, None, is_some, Result, Ok, Err, ok_or, if◌then◌else◌}
 use Rattle.std.specs.List.{list_any, position}
 use Rattle.std.specs.Option.{option_map}
 use Rattle.pr_words.specs.declared.fault.Why.{Why}
-use Rattle.pr_words.specs.declared.fault.Why.TheVariants.{Unknown, NoValue, BadNumber, BadSchedule, BadBind, BadEnv, Twice, CalmAlone, CaseAlone, ZeroByte, BadId}
+use Rattle.pr_words.specs.declared.fault.Why.TheVariants.{Unknown, NoValue, BadNumber, BadSchedule, BadBind, BadEnv, Twice, CalmAlone, CaseAlone, ZeroByte, BadId, LooseAlone}
 use Rattle.pr_words.specs.declared.fault.WordsFault.{WordsFault}
 use Rattle.pr_words.specs.declared.fault.WordsFault.TheVariants.{Usage}
 use Rattle.pr_words.specs.declared.kind.Kind.{Kind}
-use Rattle.pr_words.specs.declared.kind.Kind.TheVariants.{Root, Bind, Directory, RootId, ChangeId, Variable, Turns, Schedule, Native, Calm, Case}
+use Rattle.pr_words.specs.declared.kind.Kind.TheVariants.{Root, Bind, Directory, RootId, ChangeId, Variable, Turns, Schedule, Loose, Native, Calm, Case}
 use Rattle.pr_words.specs.declared.spelling.Spelled.TheVariants.{Command as CommandWord, Unknown as UnknownWord, Flag, Short, Lacking, Long}
 use Rattle.pr_words.specs.declared.setting.Setting.{Setting}
-use Rattle.pr_words.specs.declared.setting.Setting.TheVariants.{Root as RootSetting, Bind as BindSetting, Directory as DirectorySetting, RootId as RootIdSetting, ChangeId as ChangeIdSetting, Variable as VariableSetting, Turns as TurnsSetting, Schedule as ScheduleSetting, Native as NativeSetting, Calm as CalmSetting, Case as CaseSetting}
+use Rattle.pr_words.specs.declared.setting.Setting.TheVariants.{Root as RootSetting, Bind as BindSetting, Directory as DirectorySetting, RootId as RootIdSetting, ChangeId as ChangeIdSetting, Variable as VariableSetting, Turns as TurnsSetting, Schedule as ScheduleSetting, Loose as LooseSetting, Native as NativeSetting, Calm as CalmSetting, Case as CaseSetting}
 use Rattle.pr_words.specs.declared.options.Options.{Options}
 use Rattle.pr_words.specs.Spelling.{spelling_of, own_value}
 use Rattle.pr_words.specs.Rules.{smaller}
 use Rattle.pr_words.specs.Values.{turns_of, case_of, ids_of, schedule_of, binding_of, Binding, is_variable}
-use Rattle.pr_words.specs.Meaning.{latest, root_in, directory_in, change_in, ids_in, turns_in, schedule_in, case_in, native_in, calm_in, options_of}
+use Rattle.pr_words.specs.Meaning.{latest, root_in, directory_in, change_in, ids_in, turns_in, schedule_in, loose_in, case_in, native_in, calm_in, options_of}
 
 -- ---- the options and the command
 
@@ -62,6 +62,7 @@ setting_of ChangeId value = ok_or (option_map (λ ids. ChangeIdSetting ids.0 ids
 setting_of Variable value = if is_variable value then Ok (VariableSetting value) else Err BadEnv
 setting_of Turns value = ok_or (option_map TurnsSetting (turns_of value)) BadNumber
 setting_of Schedule value = ok_or (option_map ScheduleSetting (schedule_of value)) BadSchedule
+setting_of Loose value = ok_or (option_map LooseSetting (schedule_of value)) BadSchedule
 setting_of Native value = Ok NativeSetting
 setting_of Calm value = Ok CalmSetting
 setting_of Case value = ok_or (option_map CaseSetting (case_of value)) BadNumber
@@ -75,6 +76,7 @@ is_again RootId earlier = is_some (latest change_in earlier)
 is_again ChangeId earlier = is_some (latest ids_in earlier)
 is_again Turns earlier = is_some (latest turns_in earlier)
 is_again Schedule earlier = is_some (latest schedule_in earlier)
+is_again Loose earlier = is_some (latest loose_in earlier)
 is_again Case earlier = is_some (latest case_in earlier)
 is_again Bind earlier = false
 is_again Variable earlier = false
@@ -126,6 +128,9 @@ is_beside_case s = false
 abbrev pub is_calm : Setting → Bool
 is_calm s = is_some (calm_in s)
 
+abbrev pub is_loose : Setting → Bool
+is_loose s = is_some (loose_in s)
+
 abbrev pub first_word : ℕ → List (List ℕ) → Option ℕ
 first_word n [] = None
 first_word n (word ∷ words) = Some n
@@ -139,6 +144,14 @@ case_alone given n command =
 abbrev pub calm_alone : List Given → Option ℕ
 calm_alone given = if is_some (latest native_in (settings_of given)) then None else first_place is_calm given
 
+-- whether there is an option beside which `--loose` may not stand
+abbrev pub excludes_loose : List Setting → Bool
+excludes_loose settings = (is_some (latest native_in settings) || is_some (latest schedule_in settings)) || is_some (latest ids_in settings)
+
+-- `--loose` stands without `--native`, without `--schedule` and without an identity
+abbrev pub loose_alone : List Given → Option ℕ
+loose_alone given = if excludes_loose (settings_of given) then first_place is_loose given else None
+
 abbrev pub broken_at : Option ℕ → Why → Result Options WordsFault → Result Options WordsFault
 broken_at None why other = other
 broken_at (Some place) why other = Err (Usage place why)
@@ -146,7 +159,8 @@ broken_at (Some place) why other = Err (Usage place why)
 -- all options are given, and the command begins at word n
 abbrev pub ended : List Given → ℕ → List (List ℕ) → Result Options WordsFault
 ended given n command =
-    broken_at (case_alone given n command) CaseAlone (broken_at (calm_alone given) CalmAlone (Ok (options_of (settings_of given) command)))
+    broken_at (case_alone given n command) CaseAlone
+    (broken_at (calm_alone given) CalmAlone (broken_at (loose_alone given) LooseAlone (Ok (options_of (settings_of given) command))))
 
 -- ---- the words
 

@@ -1,7 +1,7 @@
 -- The rules by their numbers.
 use Rattle.std.specs.Prelude.{ℕ, nat_le, if◌then◌else◌}
 use Rattle.pr_words.specs.declared.fault.Why.{Why}
-use Rattle.pr_words.specs.declared.fault.Why.TheVariants.{Unknown, NoValue, BadNumber, BadSchedule, BadBind, BadEnv, Twice, CalmAlone, CaseAlone, ZeroByte, BadId}
+use Rattle.pr_words.specs.declared.fault.Why.TheVariants.{Unknown, NoValue, BadNumber, BadSchedule, BadBind, BadEnv, Twice, CalmAlone, CaseAlone, ZeroByte, BadId, LooseAlone}
 
 abbrev pub number_of_rule : Why → ℕ
 number_of_rule Unknown = 1
@@ -15,6 +15,7 @@ number_of_rule CalmAlone = 8
 number_of_rule CaseAlone = 9
 number_of_rule ZeroByte = 10
 number_of_rule BadId = 11
+number_of_rule LooseAlone = 12
 
 -- of two rules the one with the smaller number
 abbrev pub smaller : Why → Why → Why

@@ -42,5 +42,7 @@ pub record AreSound (o : Options) : Type 0 where
   pub turns : o.turns ≤ 10000000
   pub schedule : All IsSlot o.schedule
   pub slots : length o.schedule ≤ 1024
+  pub loose : All IsSlot o.loose
+  pub loose_slots : length o.loose ≤ 1024
   pub case : IfSome o.case (λ n. n ≤ 65535)
   pub command : All IsText o.command

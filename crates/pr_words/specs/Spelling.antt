@@ -3,7 +3,7 @@ use Rattle.std.specs.Prelude.{ℕ, ◌+◌, ◌==◌, bytes_eq, nat_eq, List, ta
 use Rattle.std.specs.List.{starts_with, position}
 use Rattle.std.specs.Option.{option_map}
 use Rattle.pr_words.specs.declared.kind.Kind.{Kind}
-use Rattle.pr_words.specs.declared.kind.Kind.TheVariants.{Root, Bind, Directory, RootId, ChangeId, Variable, Turns, Schedule, Native, Calm, Case}
+use Rattle.pr_words.specs.declared.kind.Kind.TheVariants.{Root, Bind, Directory, RootId, ChangeId, Variable, Turns, Schedule, Loose, Native, Calm, Case}
 use Rattle.pr_words.specs.declared.spelling.Spelled.{Spelled}
 use Rattle.pr_words.specs.declared.spelling.Spelled.TheVariants.{Command, Unknown, Flag, Short, Lacking, Long}
 
@@ -46,8 +46,9 @@ long_named name =
     if bytes_eq name (codes "--env") then Some Variable
     else (if bytes_eq name (codes "--turns") then Some Turns
     else (if bytes_eq name (codes "--schedule") then Some Schedule
+    else (if bytes_eq name (codes "--loose") then Some Loose
     else (if bytes_eq name (codes "--case") then Some Case
-    else renamed name)))
+    else renamed name))))
 
 abbrev pub spelled_or : (Kind → Spelled) → Spelled → Option Kind → Spelled
 spelled_or form other None = other

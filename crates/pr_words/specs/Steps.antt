@@ -1,24 +1,24 @@
 -- What the reader keeps of the options that it has read, and what the next option changes.
-use Rattle.std.specs.Prelude.{◌≡◌, ℕ, ◌+◌, ◌≤◌, Bool, true, false, not, List, [], ◌∷◌, codes, Option, Some, None, is_some, IfSome, unwrap_or, Result, Ok, Err, IfOk, if◌then◌else◌}
+use Rattle.std.specs.Prelude.{◌≡◌, ℕ, ◌+◌, ◌≤◌, Bool, true, false, not, ◌||◌, List, [], ◌∷◌, codes, Option, Some, None, is_some, IfSome, unwrap_or, Result, Ok, Err, IfOk, if◌then◌else◌}
 use Rattle.pr_words.specs.declared.fault.Why.{Why}
-use Rattle.pr_words.specs.declared.fault.Why.TheVariants.{Unknown, NoValue, CalmAlone, CaseAlone}
+use Rattle.pr_words.specs.declared.fault.Why.TheVariants.{Unknown, NoValue, CalmAlone, CaseAlone, LooseAlone}
 use Rattle.pr_words.specs.declared.fault.OptionFault.{OptionFault}
 use Rattle.pr_words.specs.declared.fault.OptionFault.TheVariants.{Broken, NoMemory}
 use Rattle.pr_words.specs.declared.fault.WordsFault.{WordsFault}
 use Rattle.pr_words.specs.declared.fault.WordsFault.TheVariants.{Usage, NoMemory as NoMemoryForWords}
 use Rattle.pr_words.specs.declared.kind.Kind.{Kind}
-use Rattle.pr_words.specs.declared.kind.Kind.TheVariants.{Root, Bind, Directory, RootId, ChangeId, Variable, Turns, Schedule, Native, Calm, Case}
+use Rattle.pr_words.specs.declared.kind.Kind.TheVariants.{Root, Bind, Directory, RootId, ChangeId, Variable, Turns, Schedule, Loose, Native, Calm, Case}
 use Rattle.pr_words.specs.declared.spelling.Spelled.{Spelled}
 use Rattle.pr_words.specs.declared.spelling.Spelled.TheVariants.{Command as CommandWord, Unknown as UnknownWord, Flag, Short, Lacking, Long}
 use Rattle.pr_words.specs.declared.setting.Setting.{Setting}
-use Rattle.pr_words.specs.declared.setting.Setting.TheVariants.{Root as RootSetting, Bind as BindSetting, Directory as DirectorySetting, RootId as RootIdSetting, ChangeId as ChangeIdSetting, Variable as VariableSetting, Turns as TurnsSetting, Schedule as ScheduleSetting, Native as NativeSetting, Calm as CalmSetting, Case as CaseSetting}
+use Rattle.pr_words.specs.declared.setting.Setting.TheVariants.{Root as RootSetting, Bind as BindSetting, Directory as DirectorySetting, RootId as RootIdSetting, ChangeId as ChangeIdSetting, Variable as VariableSetting, Turns as TurnsSetting, Schedule as ScheduleSetting, Loose as LooseSetting, Native as NativeSetting, Calm as CalmSetting, Case as CaseSetting}
 use Rattle.pr_words.specs.declared.options.Options.{Options}
 use Rattle.pr_words.specs.declared.so_far.SoFar.{SoFar}
 use Rattle.pr_words.specs.Bindings.{with_bind}
 use Rattle.pr_words.specs.Variables.{with_variable}
 use Rattle.pr_words.specs.Spelling.{spelling_of, own_value}
-use Rattle.pr_words.specs.Meaning.{latest, root_in, directory_in, change_in, ids_in, turns_in, schedule_in, case_in, native_in, calm_in, binds_of, variables_of}
-use Rattle.pr_words.specs.Reading.{Given, settings_of, first_place, is_beside_case, is_calm, or_else, place_if, first_word, broken_at, setting_of, or_twice}
+use Rattle.pr_words.specs.Meaning.{latest, root_in, directory_in, change_in, ids_in, turns_in, schedule_in, loose_in, case_in, native_in, calm_in, binds_of, variables_of}
+use Rattle.pr_words.specs.Reading.{Given, settings_of, first_place, is_beside_case, is_calm, is_loose, or_else, place_if, first_word, broken_at, setting_of, or_twice}
 
 -- what is kept of the options so far
 abbrev pub so_far_of : List Given → SoFar
@@ -31,19 +31,22 @@ so_far_of given = record {
   variables = variables_of (settings_of given);
   turns = latest turns_in (settings_of given);
   schedule = latest schedule_in (settings_of given);
+  loose = latest loose_in (settings_of given);
   native = is_some (latest native_in (settings_of given));
   calm = is_some (latest calm_in (settings_of given));
   case = latest case_in (settings_of given);
   first_calm = first_place is_calm given;
+  first_loose = first_place is_loose given;
   first_other = first_place (λ s. not (is_beside_case s)) given;
 }
 
 -- ---- one more setting
 
--- its place counts where it is the first of those that may not stand alone, or not beside `--case`
+-- its place counts where it is the first of those that may not stand alone, or beside some, or not beside `--case`
 abbrev pub noted : ℕ → Setting → SoFar → SoFar
 noted place setting s = record s {
   first_calm = or_else s.first_calm (place_if (is_calm setting) place);
+  first_loose = or_else s.first_loose (place_if (is_loose setting) place);
   first_other = or_else s.first_other (place_if (not (is_beside_case setting)) place);
 }
 
@@ -56,6 +59,7 @@ applied (ChangeIdSetting uid gid) s = record s { ids = Some (uid, gid); is_chang
 applied (VariableSetting text) s = record s { variables = with_variable text s.variables }
 applied (TurnsSetting n) s = record s { turns = Some n }
 applied (ScheduleSetting slots) s = record s { schedule = Some slots }
+applied (LooseSetting slots) s = record s { loose = Some slots }
 applied NativeSetting s = record s { native = true }
 applied CalmSetting s = record s { calm = true }
 applied (CaseSetting n) s = record s { case = Some n }
@@ -71,6 +75,7 @@ is_again_in RootId s = s.is_changed
 is_again_in ChangeId s = is_some s.ids
 is_again_in Turns s = is_some s.turns
 is_again_in Schedule s = is_some s.schedule
+is_again_in Loose s = is_some s.loose
 is_again_in Case s = is_some s.case
 is_again_in Bind s = false
 is_again_in Variable s = false
@@ -147,6 +152,7 @@ options_in s command = record {
   env = s.variables;
   turns = unwrap_or s.turns 1000000;
   schedule = unwrap_or s.schedule [];
+  loose = unwrap_or s.loose [];
   native = s.native;
   calm = s.calm;
   case = s.case;
@@ -159,6 +165,9 @@ case_alone_in s n command = if is_some s.case then or_else s.first_other (first_
 abbrev pub calm_alone_in : SoFar → Option ℕ
 calm_alone_in s = if s.native then None else s.first_calm
 
+abbrev pub loose_alone_in : SoFar → Option ℕ
+loose_alone_in s = if (s.native || is_some s.schedule) || is_some s.ids then s.first_loose else None
+
 abbrev pub finished : SoFar → ℕ → List (List ℕ) → Result Options WordsFault
 finished s n command =
-    broken_at (case_alone_in s n command) CaseAlone (broken_at (calm_alone_in s) CalmAlone (Ok (options_in s command)))
+    broken_at (case_alone_in s n command) CaseAlone (broken_at (calm_alone_in s) CalmAlone (broken_at (loose_alone_in s) LooseAlone (Ok (options_in s command))))

@@ -31,6 +31,8 @@ pub enum Why {
     ZeroByte = 10,
     /// The value isn't two numbers of a user and a group with a `:` between them.
     BadId = 11,
+    /// `--loose` stands with `--native`, with `--schedule` or with an option of the identity.
+    LooseAlone = 12,
 }
 
 impl Why {

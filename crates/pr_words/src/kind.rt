@@ -16,6 +16,8 @@ pub(crate) enum Kind {
     Variable,
     Turns,
     Schedule,
+    /// The slots of single steps.
+    Loose,
     /// The mounted kernel.
     Native,
     /// The last line, which tells whether the run was calm.

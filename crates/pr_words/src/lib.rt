@@ -6,7 +6,7 @@
 //!
 //! `read` answers exactly the options and the command of the definition, or the first word that breaks a rule and which rule, want of memory
 //! aside (its one clause): a zero byte in a word first, then word by word the smallest number among the rules that the word breaks, last what may
-//! not stand beside `--case`, and `--calm` without `--native`.
+//! not stand beside `--case`, `--calm` without `--native`, and `--loose` beside what excludes it.
 //!
 //! In what was read no text has a zero byte, no part of a binding is empty, bindings are numbered from 1 on, and numbers lie within their ranges
 //! (`sound`).

@@ -162,10 +162,12 @@ pub struct Options {
     pub ids: Option<(u32, u32)>,
     /// The environment: texts `K=V`. A name that is given again has its last value in its first place.
     pub env: Texts,
-    /// After how many turns the run is over.
+    /// After how many turns, or single steps, the run is over.
     pub turns: u32,
     /// The slots of the schedule, which are used in a cycle; none where no schedule is given.
     pub schedule: Slots,
+    /// The slots of single steps, which are used in a cycle; none where no such steps are asked for.
+    pub loose: Slots,
     /// The mounted kernel is run.
     pub native: bool,
     /// The last line tells whether the run was calm.

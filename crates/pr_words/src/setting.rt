@@ -23,6 +23,7 @@ pub(crate) enum Setting {
     Variable(Bytes),
     Turns(u32),
     Schedule(Slots),
+    Loose(Slots),
     Native,
     Calm,
     Case(u32),
@@ -76,6 +77,15 @@ fn schedule_setting(alloc: Global, value: &[u8]) -> Result<Setting, OptionFault>
     }
 }
 
+fn loose_setting(alloc: Global, value: &[u8]) -> Result<Setting, OptionFault>
+    ensures { IsRead (setting_of Kind.Loose value.now) result }
+{
+    match schedule_of(alloc, value)? {
+        Some(slots) => Ok(Setting::Loose(slots)),
+        None => Err(OptionFault::Broken(Why::BadSchedule)),
+    }
+}
+
 fn case_setting(value: &[u8]) -> Result<Setting, OptionFault>
     ensures { IsRead (setting_of Kind.Case value.now) result }
 {
@@ -113,6 +123,7 @@ impl Setting {
             Kind::Variable => variable_setting(alloc, value),
             Kind::Turns => turns_setting(value),
             Kind::Schedule => schedule_setting(alloc, value),
+            Kind::Loose => loose_setting(alloc, value),
             Kind::Native => Ok(Setting::Native),
             Kind::Calm => Ok(Setting::Calm),
             Kind::Case => case_setting(value),

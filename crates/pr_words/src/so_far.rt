@@ -2,8 +2,8 @@
 ghost use Rattle.std.specs.Prelude.{◌≡◌, ◌+◌, ◌<◌, ◌≤◌, ◌^◌, [], ◌∷◌, length, map, IfOk, OnOk, codes, unwrap_or};
 ghost use Rattle.std.specs.String.{string_bytes};
 ghost use Rattle.pr_words.specs.Answers.{IsAnswer};
-ghost use Rattle.pr_words.specs.Reading.{is_calm, is_beside_case};
-ghost use Rattle.pr_words.specs.Steps.{so_far_of, noted, added, is_again_in, step_of, IsStep, case_alone_in, calm_alone_in, options_in, finished};
+ghost use Rattle.pr_words.specs.Reading.{is_calm, is_loose, is_beside_case};
+ghost use Rattle.pr_words.specs.Steps.{so_far_of, noted, added, is_again_in, step_of, IsStep, case_alone_in, calm_alone_in, loose_alone_in, options_in, finished};
 
 use crate::fault::{OptionFault, Why, WordsFault};
 use crate::front::Front;
@@ -30,11 +30,14 @@ pub(crate) struct SoFar {
     pub(crate) variables: Variables,
     pub(crate) turns: Option<u32>,
     pub(crate) schedule: Option<Slots>,
+    pub(crate) loose: Option<Slots>,
     pub(crate) native: bool,
     pub(crate) calm: bool,
     pub(crate) case: Option<u32>,
     /// The first word that is `--calm`.
     pub(crate) first_calm: Option<u32>,
+    /// The first word that is `--loose`.
+    pub(crate) first_loose: Option<u32>,
     /// The first option that may not stand beside `--case`.
     pub(crate) first_other: Option<u32>,
 }
@@ -43,6 +46,12 @@ fn is_calm(setting: &Setting) -> bool
     ensures { result ≡ is_calm setting.now }
 {
     matches!(setting, Setting::Calm)
+}
+
+fn is_loose(setting: &Setting) -> bool
+    ensures { result ≡ is_loose setting.now }
+{
+    matches!(setting, Setting::Loose(_))
 }
 
 /// Whether it may stand beside `--case`.
@@ -65,11 +74,11 @@ fn or_slash(alloc: Global, path: Option<Bytes>) -> Result<Bytes, NoMemory>
     }
 }
 
-/// The slots of a schedule, none where there is none.
-fn or_none(alloc: Global, schedule: Option<Slots>) -> Slots
-    ensures { result ≡ unwrap_or schedule [] }
+/// The slots that are given, none where there are none.
+fn or_none(alloc: Global, given: Option<Slots>) -> Slots
+    ensures { result ≡ unwrap_or given [] }
 {
-    match schedule {
+    match given {
         Some(slots) => slots,
         None => Slots::new(alloc),
     }
@@ -100,21 +109,26 @@ impl SoFar {
             variables: Variables::new(alloc),
             turns: None,
             schedule: None,
+            loose: None,
             native: false,
             calm: false,
             case: None,
             first_calm: None,
+            first_loose: None,
             first_other: None,
         }
     }
 
-    /// Notes an option's place where it is the first of those that may not stand alone, or not beside
-    /// `--case`.
+    /// Notes an option's place where it is the first of those that may not stand alone, or beside some, or not
+    /// beside `--case`.
     fn note(&mut self, place: u32, setting: &Setting)
         ensures { self.new ≡ noted place setting.now self.old }
     {
         if self.first_calm.is_none() && is_calm(setting) {
             self.first_calm = Some(place);
+        }
+        if self.first_loose.is_none() && is_loose(setting) {
+            self.first_loose = Some(place);
         }
         if self.first_other.is_none() && !is_beside_case(setting) {
             self.first_other = Some(place);
@@ -140,6 +154,7 @@ impl SoFar {
             Setting::Variable(text) => self.variables.put(text)?,
             Setting::Turns(turns) => self.turns = Some(turns),
             Setting::Schedule(slots) => self.schedule = Some(slots),
+            Setting::Loose(slots) => self.loose = Some(slots),
             Setting::Native => self.native = true,
             Setting::Calm => self.calm = true,
             Setting::Case(number) => self.case = Some(number),
@@ -158,6 +173,7 @@ impl SoFar {
             Kind::ChangeId => self.ids.is_some(),
             Kind::Turns => self.turns.is_some(),
             Kind::Schedule => self.schedule.is_some(),
+            Kind::Loose => self.loose.is_some(),
             Kind::Case => self.case.is_some(),
             Kind::Bind | Kind::Variable | Kind::Native | Kind::Calm => false,
         }
@@ -212,6 +228,17 @@ impl SoFar {
         if self.native { None } else { self.first_calm }
     }
 
+    /// The first `--loose`, where an option is given beside which it may not stand.
+    fn loose_alone(&self) -> Option<u32>
+        ensures { result ≡ loose_alone_in self.now }
+    {
+        if self.native || self.schedule.is_some() || self.ids.is_some() {
+            self.first_loose
+        } else {
+            None
+        }
+    }
+
     fn into_options(self, alloc: Global, command: &[String]) -> Result<Options, NoMemory>
         ensures { IfOk result (λ options. options ≡ options_in self (map string_bytes command.now)) }
     {
@@ -226,6 +253,7 @@ impl SoFar {
             env: self.variables.into_texts(),
             turns: self.turns.unwrap_or(UNASKED_TURNS),
             schedule: or_none(alloc, self.schedule),
+            loose: or_none(alloc, self.loose),
             native: self.native,
             calm: self.calm,
             case: self.case,
@@ -254,6 +282,12 @@ impl SoFar {
             return Err(WordsFault::Usage {
                 word,
                 why: Why::CalmAlone,
+            });
+        }
+        if let Some(word) = self.loose_alone() {
+            return Err(WordsFault::Usage {
+                word,
+                why: Why::LooseAlone,
             });
         }
         let options = self.into_options(alloc, command)?;

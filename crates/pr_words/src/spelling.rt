@@ -95,6 +95,8 @@ fn long_named(name: &[u8]) -> Option<Kind>
         Some(Kind::Turns)
     } else if name == b"--schedule".as_slice() {
         Some(Kind::Schedule)
+    } else if name == b"--loose".as_slice() {
+        Some(Kind::Loose)
     } else if name == b"--case".as_slice() {
         Some(Kind::Case)
     } else {

@@ -72,8 +72,8 @@ fn read_line(alloc: Global, words: &[String]) -> Result<Options, WordsFault>
 /// Reads the words of a command line: options, and then the command, which begins at the first word
 /// that doesn't begin with `-`. Where words break a rule, the answer is the first such word and its rule:
 /// a zero byte in a word first; then, word by word, the smallest number among the rules that the word
-/// breaks; and last what may not stand beside `--case`, and `--calm` without `--native`. Nothing else is
-/// refused but for want of memory.
+/// breaks; and last what may not stand beside `--case`, `--calm` without `--native`, and what `--loose` may
+/// not stand beside. Nothing else is refused but for want of memory.
 pub fn read(alloc: Global, words: &[String]) -> Result<Options, WordsFault>
     requires { length words.now < 2 ^ 32 }
     ensures answer { IsAnswer (reading_of (map string_bytes words.now)) result }

@@ -9,7 +9,7 @@ use Rattle.kr_calls.specs.PathTable.{PathUse, path_at}
 use Rattle.kr_calls.specs.declared.request.Request.{Request}
 use Rattle.pt_args.specs.Points.{one_is_busy, both_are_busy}
 use Rattle.pt_args.specs.Purposes.{opens, swap_for}
-use Rattle.pt_args.specs.Walks.{and_then, walked}
+use Rattle.pt_args.specs.Walks.{and_then, walked, walked_unmet}
 use Rattle.pt_args.specs.declared.plan.Plan.{Plan}
 use Rattle.pt_args.specs.declared.plan.Plan.TheVariants.{Passes, Swaps}
 use Rattle.pt_args.specs.declared.plan.Swapped.{Swapped}
@@ -50,6 +50,14 @@ second_walked texts pid request first (Some u) = and_then (walked texts pid (ope
 abbrev pub plan_second : TextSurroundings → ℕ → Request → Reached → Result Plan Errno
 plan_second texts pid request first = second_walked texts pid request first (path_at request 1)
 
+-- and whether the process directory is unmet still, by whether it was before
+abbrev pub unmet_on_second : TextSurroundings → ℕ → Option PathUse → Bool → Bool
+unmet_on_second texts pid None unmet = unmet
+unmet_on_second texts pid (Some u) unmet = walked_unmet texts pid u unmet
+
+abbrev pub second_unmet : TextSurroundings → ℕ → Request → Bool → Bool
+second_unmet texts pid request unmet = unmet_on_second texts pid (path_at request 1) unmet
+
 -- behind the walk of the first path: where it stays as it is, the second one does
 abbrev pub plan_from : TextSurroundings → ℕ → Request → Option Reached → Result Plan Errno
 plan_from texts pid request None = Ok Passes
@@ -61,3 +69,16 @@ first_walked texts pid request (Some u) = and_then (walked texts pid (opens requ
 
 abbrev pub plan_of : TextSurroundings → ℕ → Request → Result Plan Errno
 plan_of texts pid request = first_walked texts pid request (path_at request 0)
+
+-- a second path is walked where the first one led somewhere
+abbrev pub unmet_behind_first : TextSurroundings → ℕ → Request → Result (Option Reached) Errno → Bool → Bool
+unmet_behind_first texts pid request (Ok None) unmet = unmet
+unmet_behind_first texts pid request (Ok (Some first)) unmet = second_unmet texts pid request unmet
+unmet_behind_first texts pid request (Err e) unmet = unmet
+
+abbrev pub unmet_on_first : TextSurroundings → ℕ → Request → Option PathUse → Bool → Bool
+unmet_on_first texts pid request None unmet = unmet
+unmet_on_first texts pid request (Some u) unmet = unmet_behind_first texts pid request (walked texts pid (opens request) u) (walked_unmet texts pid u unmet)
+
+abbrev pub plan_unmet : TextSurroundings → ℕ → Request → Bool → Bool
+plan_unmet texts pid request unmet = unmet_on_first texts pid request (path_at request 0) unmet

@@ -1,9 +1,10 @@
 -- Where a path of a call leads, by the tracer's walk over guest texts.
-use Rattle.std.specs.Prelude.{ℕ, Bool, IsTrue, List, [], ◌∷◌, Option, Some, None, Result, Ok, Err}
+use Rattle.std.specs.Prelude.{ℕ, ◌&&◌, Bool, IsTrue, List, [], ◌∷◌, Option, Some, None, Result, Ok, Err}
 use Rattle.pt_canon.specs.pr_base.Paths.{is_absolute}
 use Rattle.pt_canon.specs.pr_base.declared.errno.Errno.{Errno}
 use Rattle.pt_canon.specs.pt_bind.Binding.{IsWritten, names_of}
 use Rattle.pt_canon.specs.Canon.{canon_of}
+use Rattle.pt_canon.specs.LookedPaths.{is_steady_walk}
 use Rattle.pt_canon.specs.TextWalk.{TextSurroundings}
 use Rattle.pt_canon.specs.declared.canon.Canon.{Canon}
 use Rattle.kr_calls.specs.PathTable.{PathUse}
@@ -32,6 +33,25 @@ walked_along texts pid opening u (b ∷ path) = and_then (base_of texts pid u) (
 
 abbrev pub walked : TextSurroundings → ℕ → Bool → PathUse → Result (Option Reached) Errno
 walked texts pid opening u = walked_along texts pid opening u u.text
+
+-- ---- whether the process directory is unmet still, by whether it was before: each walk that is made has to be steady
+
+abbrev pub unmet_from : TextSurroundings → PathUse → Option (List ℕ) → Bool → Bool
+unmet_from texts u None unmet = unmet
+unmet_from texts u (Some base) unmet = unmet && is_steady_walk texts u.mode (names_of base) u.text
+
+abbrev pub unmet_by_base : TextSurroundings → PathUse → Result (Option (List ℕ)) Errno → Bool → Bool
+unmet_by_base texts u (Ok base) unmet = unmet_from texts u base unmet
+unmet_by_base texts u (Err e) unmet = unmet
+
+abbrev pub unmet_along : TextSurroundings → ℕ → PathUse → List ℕ → Bool → Bool
+unmet_along texts pid u [] unmet = unmet
+unmet_along texts pid u (b ∷ path) unmet = unmet_by_base texts u (base_of texts pid u) unmet
+
+abbrev pub walked_unmet : TextSurroundings → ℕ → PathUse → Bool → Bool
+walked_unmet texts pid u unmet = unmet_along texts pid u u.text unmet
+
+-- ---- what is reached
 
 -- a guest text was reached, and a host text
 pub record IsReached (reached : Reached) : Type 0 where

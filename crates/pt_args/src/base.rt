@@ -26,6 +26,7 @@ impl<'a> Caller<'a> {
         ensures answer { let texts = texts_by table.now (K.peeked kernel.old) self.now.tags.now in
             IsAnswer (base_of texts self.now.pid (path_use path.entry)) result }
         ensures written { IfOk result (λ base. IfSome base IsWritten) }
+        ensures unmet { K.unmet kernel.new ≡ K.unmet kernel.old }
         ensures kernel { OnlyPeeks K.peeked K.kept kernel.old kernel.new }
     {
         if components(path.text).absolute() {
@@ -50,6 +51,7 @@ impl<'a> Caller<'a> {
         ensures answer { let texts = texts_by table.now (K.peeked kernel.old) self.now.tags.now in
             IsAnswer (working_base texts self.now.pid) result }
         ensures written { IfOk result (λ base. IfSome base IsWritten) }
+        ensures unmet { K.unmet kernel.new ≡ K.unmet kernel.old }
         ensures kernel { OnlyPeeks K.peeked K.kept kernel.old kernel.new }
     {
         let text = working_text(kernel, table, self.tags, self.pid)?;
@@ -66,6 +68,7 @@ impl<'a> Caller<'a> {
         ensures answer { let texts = texts_by table.now (K.peeked kernel.old) self.now.tags.now in
             IsAnswer (descriptor_base texts self.now.pid fd ((K.peeked kernel.old).base_kind self.now.pid fd)) result }
         ensures written { IfOk result (λ base. IfSome base IsWritten) }
+        ensures unmet { K.unmet kernel.new ≡ K.unmet kernel.old }
         ensures kernel { OnlyPeeks K.peeked K.kept kernel.old kernel.new }
     {
         match kernel.base_kind(self.pid, fd) {
@@ -106,6 +109,7 @@ pub fn working_text<K: Peeks>(
 ) -> Result<Option<Bytes>, NoMemory>
     ensures text { IfOk result (λ text. text ≡ working_text (texts_by table.now (K.peeked kernel.old) tags.now) pid) }
     ensures written { IfOk result (λ text. IfSome text IsWritten) }
+    ensures unmet { K.unmet kernel.new ≡ K.unmet kernel.old }
     ensures kernel { OnlyPeeks K.peeked K.kept kernel.old kernel.new }
 {
     let name = cwd_name(kernel, pid)?;
@@ -116,6 +120,7 @@ pub fn working_text<K: Peeks>(
 fn cwd_name<K: Peeks>(kernel: &mut K, pid: u32) -> Result<Option<Bytes>, NoMemory>
     ensures answer { IfOk result (λ name. name ≡ (K.peeked kernel.old).cwd_name pid) }
     ensures written { IfOk result (λ name. IfSome name IsWritten) }
+    ensures unmet { K.unmet kernel.new ≡ K.unmet kernel.old }
     ensures kernel { OnlyPeeks K.peeked K.kept kernel.old kernel.new }
 {
     kernel.cwd_name(pid)
@@ -125,6 +130,7 @@ fn cwd_name<K: Peeks>(kernel: &mut K, pid: u32) -> Result<Option<Bytes>, NoMemor
 fn base_name<K: Peeks>(kernel: &mut K, pid: u32, fd: u32) -> Result<Option<Bytes>, NoMemory>
     ensures answer { IfOk result (λ name. name ≡ (K.peeked kernel.old).base_name pid fd) }
     ensures written { IfOk result (λ name. IfSome name IsWritten) }
+    ensures unmet { K.unmet kernel.new ≡ K.unmet kernel.old }
     ensures kernel { OnlyPeeks K.peeked K.kept kernel.old kernel.new }
 {
     kernel.base_name(pid, fd)

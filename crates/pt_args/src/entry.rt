@@ -2,7 +2,7 @@
 ghost use Rattle.std.specs.Prelude.{◌≡◌, ◌+◌, ◌≤◌, false, [], ◌∷◌, ◌++◌, IsTrue, IfOk, None, OnOk, length};
 ghost use Rattle.pt_canon.specs.Canon.{texts_by};
 ghost use Rattle.pt_args.specs.Edits.{both, edit_by, edit_of, first_of, is_long, is_second_long, put_edit, shelve};
-ghost use Rattle.pt_args.specs.Plans.{plan_second};
+ghost use Rattle.pt_args.specs.Plans.{plan_second, plan_unmet, second_unmet};
 ghost use Rattle.pt_args.specs.Shelving.{address_below, with_item, with_zero};
 ghost use Rattle.pt_args.specs.Walks.{IsReached};
 ghost use Rattle.pt_canon.specs.Leaving.{OnlyPeeks};
@@ -45,6 +45,7 @@ pub fn rewrite<K: Peeks>(
     requires agrees { Agrees walker.old (K.peeked kernel.old) }
     ensures edit { IfOk result (λ edit. edit ≡ edit_of (texts_by walker.old.table (K.peeked kernel.old) tags.now) pid sp shelf request.now) }
     ensures walker { WalksOn (K.peeked kernel.old) walker.old walker.new }
+    ensures noted { OnOk result (K.unmet kernel.new ≡ plan_unmet (texts_by walker.old.table (K.peeked kernel.old) tags.now) pid request.now (K.unmet kernel.old)) }
     ensures kernel { OnlyPeeks K.peeked K.kept kernel.old kernel.new }
 {
     let Rewritten { edit, first: _ } = rewrite_along(
@@ -77,6 +78,7 @@ pub fn rewrite_along<K: Peeks>(
     ensures edit { IfOk result (λ r. r.edit ≡ edit_of (texts_by walker.old.table (K.peeked kernel.old) tags.now) pid sp shelf request.now) }
     ensures first { IfOk result (λ r. r.first ≡ first_of (texts_by walker.old.table (K.peeked kernel.old) tags.now) pid request.now) }
     ensures walker { WalksOn (K.peeked kernel.old) walker.old walker.new }
+    ensures noted { OnOk result (K.unmet kernel.new ≡ plan_unmet (texts_by walker.old.table (K.peeked kernel.old) tags.now) pid request.now (K.unmet kernel.old)) }
     ensures kernel { OnlyPeeks K.peeked K.kept kernel.old kernel.new }
 {
     let entry = Entry {
@@ -107,6 +109,8 @@ impl<'a> Entry<'a> {
         ensures first { let texts = texts_by walker.old.table (K.peeked kernel.old) self.now.caller.tags.now in
             IfOk result (λ r. r.first ≡ first_of texts self.now.caller.pid self.now.request.now) }
         ensures walker { WalksOn (K.peeked kernel.old) walker.old walker.new }
+        ensures noted { let texts = texts_by walker.old.table (K.peeked kernel.old) self.now.caller.tags.now in
+            OnOk result (K.unmet kernel.new ≡ plan_unmet texts self.now.caller.pid self.now.request.now (K.unmet kernel.old)) }
         ensures kernel { OnlyPeeks K.peeked K.kept kernel.old kernel.new }
     {
         let Some(path) = path_of(self.request, 0) else {
@@ -140,6 +144,8 @@ impl<'a> Entry<'a> {
         ensures edit { let texts = texts_by walker.old.table (K.peeked kernel.old) self.now.caller.tags.now in
             IfOk result (λ edit. edit ≡ edit_by self.now.sp self.now.shelf (plan_second texts self.now.caller.pid self.now.request.now first.now)) }
         ensures walker { WalksOn (K.peeked kernel.old) walker.old walker.new }
+        ensures noted { let texts = texts_by walker.old.table (K.peeked kernel.old) self.now.caller.tags.now in
+            OnOk result (K.unmet kernel.new ≡ second_unmet texts self.now.caller.pid self.now.request.now (K.unmet kernel.old)) }
         ensures kernel { OnlyPeeks K.peeked K.kept kernel.old kernel.new }
     {
         match self.caller.plan_second(kernel, walker, self.request, first) {

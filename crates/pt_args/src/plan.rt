@@ -2,8 +2,8 @@
 ghost use Rattle.std.specs.Prelude.{◌≡◌};
 ghost use Rattle.kr_calls.specs.PathTable.{path_use};
 ghost use Rattle.pt_canon.specs.pt_bind.Binding.{rows_of};
-ghost use Rattle.pt_canon.specs.Canon.{IsAnswer, texts_by};
-ghost use Rattle.pt_args.specs.Plans.{plan_both, plan_first, plan_one, plan_second, swap_of};
+ghost use Rattle.pt_canon.specs.Canon.{IsAnswer, IsWalkNoted, texts_by};
+ghost use Rattle.pt_args.specs.Plans.{plan_both, plan_first, plan_one, plan_second, second_unmet, swap_of};
 ghost use Rattle.pt_args.specs.Walks.{IsReached};
 ghost use Rattle.pt_canon.specs.Leaving.{OnlyPeeks};
 ghost use Rattle.pt_canon.specs.Remembering.{Agrees, WalksOn};
@@ -49,6 +49,8 @@ impl<'a> Caller<'a> {
         ensures answer { let texts = texts_by walker.old.table (K.peeked kernel.old) self.now.tags.now in
             IsAnswer (plan_second texts self.now.pid request.now first.now) result }
         ensures walker { WalksOn (K.peeked kernel.old) walker.old walker.new }
+        ensures noted { let texts = texts_by walker.old.table (K.peeked kernel.old) self.now.tags.now in
+            IsWalkNoted (second_unmet texts self.now.pid request.now (K.unmet kernel.old)) (K.unmet kernel.new) result }
         ensures kernel { OnlyPeeks K.peeked K.kept kernel.old kernel.new }
     {
         let Some(path) = path_of(request, 1) else {

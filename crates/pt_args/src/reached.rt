@@ -2,8 +2,8 @@
 ghost use Rattle.std.specs.Prelude.{◌≡◌, Some, IfOk, IfSome};
 ghost use Rattle.kr_calls.specs.PathTable.{path_use};
 ghost use Rattle.pt_canon.specs.pt_bind.Binding.{IsWritten};
-ghost use Rattle.pt_canon.specs.Canon.{IsAnswer, texts_by};
-ghost use Rattle.pt_args.specs.Walks.{walked, walked_from, IsReached};
+ghost use Rattle.pt_canon.specs.Canon.{IsAnswer, IsWalkNoted, texts_by};
+ghost use Rattle.pt_args.specs.Walks.{unmet_from, walked, walked_from, walked_unmet, IsReached};
 ghost use Rattle.pt_canon.specs.Leaving.{OnlyPeeks};
 ghost use Rattle.pt_canon.specs.Remembering.{Agrees, WalksOn};
 
@@ -37,6 +37,8 @@ impl<'a> Caller<'a> {
             IsAnswer (walked texts self.now.pid opening (path_use path.entry)) result }
         ensures written { IfOk result (λ reached. IfSome reached IsReached) }
         ensures walker { WalksOn (K.peeked kernel.old) walker.old walker.new }
+        ensures noted { let texts = texts_by walker.old.table (K.peeked kernel.old) self.now.tags.now in
+            IsWalkNoted (walked_unmet texts self.now.pid (path_use path.entry) (K.unmet kernel.old)) (K.unmet kernel.new) result }
         ensures kernel { OnlyPeeks K.peeked K.kept kernel.old kernel.new }
     {
         if path.text.is_empty() {
@@ -63,6 +65,8 @@ impl<'a> Caller<'a> {
             IsAnswer (walked_from texts opening (path_use path.entry) (Some base.now)) result }
         ensures written { IfOk result (λ reached. IfSome reached IsReached) }
         ensures walker { WalksOn (K.peeked kernel.old) walker.old walker.new }
+        ensures noted { let texts = texts_by walker.old.table (K.peeked kernel.old) self.now.tags.now in
+            IsWalkNoted (unmet_from texts (path_use path.entry) (Some base.now) (K.unmet kernel.old)) (K.unmet kernel.new) result }
         ensures kernel { OnlyPeeks K.peeked K.kept kernel.old kernel.new }
     {
         answers_are_of_their_texts();

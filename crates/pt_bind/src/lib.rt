@@ -29,3 +29,4 @@ mod text;
 pub use slot::Slot;
 pub use table::Table;
 pub use tags::Tags;
+pub use text::rest_below;

@@ -34,8 +34,8 @@ pub(crate) fn joined(alloc: Global, top: &[u8], rest: &[u8]) -> Result<Bytes, No
     Ok(text)
 }
 
-/// What follows the bytes of a text in those of another that stands at it or below it.
-pub(crate) fn rest_below<'a>(top: &[u8], text: &'a [u8]) -> Option<&'a [u8]>
+/// What follows the bytes of a text in those of another that stands at it or below it; `None` exactly where that one doesn't.
+pub fn rest_below<'a>(top: &[u8], text: &'a [u8]) -> Option<&'a [u8]>
     requires top { IsWritten top.now }
     requires text { IsWritten text.now }
     ensures { option_copied result ≡ option_map below_root (names_below (names_of top.now) (names_of text.now)) }

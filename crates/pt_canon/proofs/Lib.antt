@@ -4,10 +4,12 @@ pub mod AgreeLemmas
 mod AlongLemmas
 mod AnswerLemmas
 mod EndingLemmas
+mod FrontLemmas
 mod GuestLemmas
 mod KeyLemmas
 mod LandingLemmas
 mod LookLemmas
+pub mod NotedLemmas
 mod NumberLemmas
 mod PlainLemmas
 pub mod RememberLemmas

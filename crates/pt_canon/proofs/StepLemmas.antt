@@ -5,7 +5,6 @@ use Rattle.std.specs.Result.{IsErr, IsErrAnd}
 use Rattle.pt_bind.specs.pr_base.Paths.{Component, Dot, DotDot, Name, slash, components_of, has_slash, text_of}
 use Rattle.pt_bind.specs.pr_base.Texts.{Text}
 use Rattle.pt_bind.specs.pr_base.WalkFrame.{Fails, Leads, Links, Jumps, Landing, Target, Trail, after_jump, ends_found, ends_landed, ends_missing, is_followed, wants_directory, may_be_free, target_at, ends, fails, jumps_on, onward, walk_on}
-use Rattle.pt_bind.specs.pr_base.declared.errno.Errno.{Errno}
 use Rattle.pt_bind.specs.pr_base.declared.errno.Errno.TheVariants.{ENOENT, ENOTDIR, ELOOP}
 use Rattle.pt_bind.specs.pr_base.declared.path.Last.TheVariants as last
 use Rattle.pt_bind.specs.pr_base.declared.path.WalkMode.{WalkMode}
@@ -18,12 +17,11 @@ use Rattle.pt_canon.specs.Canon.{ending_of}
 use Rattle.pt_canon.specs.ProcessLinks.{above, jump_at, is_dir_kind}
 use Rattle.pt_canon.specs.Looks.{IsEntered, IsSeen, led}
 use Rattle.pt_canon.specs.Steadily.{looked}
-use Rattle.pt_canon.specs.Steps.{ended, left_on, middle_trail, last_trail, start_of, Tells, GoesOn, PassedIs, WayIs, IsFollowed, IsJumped}
+use Rattle.pt_canon.specs.Steps.{Left, done, ended, left_on, middle_trail, last_trail, start_of, told, Tells, GoesOn, PassedIs, WayIs, IsFollowed, IsJumped}
 use Rattle.pt_canon.specs.TextWalk.{TextSurroundings, SeenText, look_text, looking_texts, seen_text}
 use Rattle.pt_canon.specs.Laws.{MayLook}
 use Rattle.pt_canon.specs.declared.canon.WalkErr.{WalkErr}
 use Rattle.pt_canon.specs.declared.canon.WalkErr.TheVariants as fault
-use Rattle.pt_canon.specs.declared.ending.Ended.{Ended}
 use Rattle.pt_canon.specs.declared.ending.Ending.{Ending}
 use Rattle.pt_canon.specs.declared.walk.Onward.{Onward}
 use Rattle.pt_canon.specs.declared.walk.Passed.{Passed}
@@ -36,14 +34,14 @@ use Rattle.pt_canon.proofs.LookLemmas.{open_look}
 -- ---- errors that are handed on
 
 -- an error that tells where a walk ends does so for any answer
-pub tells_error : {T U : Type 0} (P : T → Type 0) (Q : U → Type 0) (whole : Result Ended Errno) (e : WalkErr) (r : Result U WalkErr) → Tells P whole (Err e) → IsErr r → IsErrAnd r (λ f. f ≡ e) → Tells Q whole r
+pub tells_error : {T U : Type 0} (P : T → Type 0) (Q : U → Type 0) (whole : Left) (e : WalkErr) (r : Result U WalkErr) → Tells P whole (Err e) → IsErr r → IsErrAnd r (λ f. f ≡ e) → Tells Q whole r
 tells_error P Q whole e (Ok x) told err same = absurd cc
 tells_error P Q whole e (Err fault.NoMemory) told err same = tt
 tells_error P Q whole fault.NoMemory (Err (fault.Err f)) told err same = absurd cc
-tells_error P Q whole (fault.Err e) (Err (fault.Err f)) told err same = let one : f ≡ e = cc in told ∙ ap Err (sym one)
+tells_error P Q whole (fault.Err e) (Err (fault.Err f)) told err same = let one : f ≡ e = cc in told ∙ ap (λ e. done (Err e)) (sym one)
 
 -- want of memory tells nothing
-pub tells_want : {U : Type 0} (Q : U → Type 0) (whole : Result Ended Errno) (r : Result U WalkErr) → IsErr r → IsErrAnd r (λ f. f ≡ fault.NoMemory) → Tells Q whole r
+pub tells_want : {U : Type 0} (Q : U → Type 0) (whole : Left) (r : Result U WalkErr) → IsErr r → IsErrAnd r (λ f. f ≡ fault.NoMemory) → Tells Q whole r
 tells_want Q whole (Ok x) err same = absurd cc
 tells_want Q whole (Err (fault.Err e)) err same = absurd cc
 tells_want Q whole (Err fault.NoMemory) err same = tt
@@ -52,10 +50,10 @@ tells_want Q whole (Err fault.NoMemory) err same = tt
 module _ (texts : TextSurroundings) (terms : Terms) (steady : Bool) where
   -- ---- looks
 
-  abbrev pub middle : Text → List Component → SeenText → Result Ended Errno
+  abbrev pub middle : Text → List Component → SeenText → Left
   middle t rest seen = ended texts terms.mode steady (middle_trail texts terms t rest seen)
 
-  abbrev pub final : Text → Component → SeenText → Result Ended Errno
+  abbrev pub final : Text → Component → SeenText → Left
   final t c seen = ended texts terms.mode steady (last_trail texts terms t c seen)
 
   pub middle_closed : (U : Type 0) (Q : U → Type 0) (t : Text) (c : Component) (rest : List Component) (e : WalkErr) (r : Result U WalkErr)
@@ -88,10 +86,10 @@ module _ (texts : TextSurroundings) (terms : Terms) (steady : Bool) where
   pub middle_dots : (t q : Text) (c : Component) (rest : List Component) → look_text texts t c ≡ Leads true q q → middle t rest (look_text texts t c) ≡ ended texts terms.mode steady (left_on texts terms.mode terms.left q rest terms.slash)
   middle_dots t q c rest e = ap (middle t rest) e
 
-  pub last_dots : (t q : Text) (c : Component) → look_text texts t c ≡ Leads true q q → final t c (look_text texts t c) ≡ Ok (record { ending = ending_of terms.mode (target_at t c terms.slash (Some q)); steady = steady })
+  pub last_dots : (t q : Text) (c : Component) → look_text texts t c ≡ Leads true q q → final t c (look_text texts t c) ≡ done (Ok (record { ending = ending_of terms.mode (target_at t c terms.slash (Some q)); steady = steady }))
   last_dots t q c e = ap (final t c) e ∙ either (wants_directory terms.mode terms.slash)
     where
-      either : (b : Bool) → ended texts terms.mode steady (if b then ends (target_at t c terms.slash (Some q)) else ends (target_at t c terms.slash (Some q))) ≡ Ok (record { ending = ending_of terms.mode (target_at t c terms.slash (Some q)); steady = steady })
+      either : (b : Bool) → ended texts terms.mode steady (if b then ends (target_at t c terms.slash (Some q)) else ends (target_at t c terms.slash (Some q))) ≡ done (Ok (record { ending = ending_of terms.mode (target_at t c terms.slash (Some q)); steady = steady }))
       either true = refl
       either false = refl
 
@@ -105,14 +103,14 @@ module _ (texts : TextSurroundings) (terms : Terms) (steady : Bool) where
   pub pass_named : (t entry : Text) (name : List ℕ) (c : Component) (rest : List Component) (s : SeenText) (r : Result Passed WalkErr) → MayLook texts t → c ≡ Name name → entry ≡ name ∷ t → seen_text texts entry ≡ s
       → Tells (PassedIs texts terms rest (middle (above entry) rest s)) (middle (above entry) rest s) r → Tells (PassedIs texts terms rest (middle t rest (look_text texts t c))) (middle t rest (look_text texts t c)) r
   pass_named t entry name c rest s r may of is seen told =
-      let P : Result Ended Errno → Type 0 = λ whole. Tells (PassedIs texts terms rest whole) whole r in
+      let P : Left → Type 0 = λ whole. Tells (PassedIs texts terms rest whole) whole r in
       let looked : look_text texts t c ≡ s = ap (look_text texts t) of ∙ named t name s may (ap (seen_text texts) (sym is) ∙ seen) in
       subst P (ap (λ t. middle (above t) rest s) is ∙ ap (middle t rest) (sym looked)) told
 
   pub arrive_named : (t entry : Text) (name : List ℕ) (c : Component) (s : SeenText) (r : Result Way WalkErr) → MayLook texts t → c ≡ Name name → entry ≡ name ∷ t → seen_text texts entry ≡ s
       → Tells (WayIs texts terms.mode terms.left (final t (Name name) s)) (final t (Name name) s) r → Tells (WayIs texts terms.mode terms.left (final t c (look_text texts t c))) (final t c (look_text texts t c)) r
   arrive_named t entry name c s r may of is seen told =
-      let P : Result Ended Errno → Type 0 = λ whole. Tells (WayIs texts terms.mode terms.left whole) whole r in
+      let P : Left → Type 0 = λ whole. Tells (WayIs texts terms.mode terms.left whole) whole r in
       let looked : look_text texts t c ≡ s = ap (look_text texts t) of ∙ named t name s may (ap (seen_text texts) (sym is) ∙ seen) in
       subst P ((λ i. final t (sym of i) s) ∙ ap (final t c) (sym looked)) told
 
@@ -125,7 +123,7 @@ jumps_to (suc left) go l some = refl
 -- ---- behind what stands at a text, where components follow
 
 module _ (texts : TextSurroundings) (terms : Terms) (at : Text) (behind : List ℕ) where
-  abbrev pub passed : SeenText → Result Ended Errno
+  abbrev pub passed : SeenText → Left
   passed seen = ended texts terms.mode terms.steady (middle_trail texts terms (above at) (components_of behind) seen)
 
   pub pass_links : (text path : List ℕ) (start : Text) → terms.left ≢ 0 → start ≡ start_of (above at) text → path ≡ text ++ slash ∷ behind
@@ -144,7 +142,7 @@ module _ (texts : TextSurroundings) (terms : Terms) (at : Text) (behind : List �
   pub pass_loops : (U : Type 0) (Q : U → Type 0) (text : List ℕ) (start : Text) (e : WalkErr) (r : Result U WalkErr) → IsFollowed terms.left start (Err e) → IsErr r → IsErrAnd r (λ f. f ≡ e) → Tells Q (passed (Links at text)) r
   pass_loops U Q text start (fault.Err e) r followed err same =
       let loops = ap (ended texts terms.mode terms.steady) (onward-none (looking_texts texts) terms.mode terms.left (start_of (above at) text) (components_of text ++ components_of behind) terms.slash followed.0) in
-      tells_error {T = U} Q Q _ (fault.Err e) r (loops ∙ ap Err (sym followed.1)) err same
+      tells_error {T = U} Q Q _ (fault.Err e) r (loops ∙ ap (λ e. done (Err e)) (sym followed.1)) err same
   pass_loops U Q text start fault.NoMemory r followed err same = tells_want Q _ r err same
 
   pub pass_jumps : (lead : Option (Landing Text Text)) (guest : Text) (path : List ℕ) → IsJumped terms.left lead (Ok guest) → path ≡ behind
@@ -180,8 +178,8 @@ jump_nowhere (suc left) (Some l) go some none = absurd cc
 
 -- ---- endings
 
-abbrev pub ended_with : Bool → Ending → Result Ended Errno
-ended_with steady ending = Ok (record { ending = ending; steady = steady })
+abbrev pub ended_with : Bool → Ending → Left
+ended_with steady ending = done (Ok (record { ending = ending; steady = steady }))
 
 abbrev pub named_at : Text → Bool → Bool → Ending
 named_at guest slash exists = record { guest = guest; last = last.Name; slash = slash; exists = exists }
@@ -193,7 +191,7 @@ module _ (texts : TextSurroundings) (steady : Bool) where
   free_ended modes.Name dir name slash free = refl
   free_ended modes.Open dir name slash free = refl
 
-  pub missing_ended : (mode : WalkMode) (dir : Text) (name : List ℕ) (slash : Bool) → may_be_free mode ≡ false → ended texts mode steady (ends_missing mode dir (Name name) slash) ≡ Err ENOENT
+  pub missing_ended : (mode : WalkMode) (dir : Text) (name : List ℕ) (slash : Bool) → may_be_free mode ≡ false → ended texts mode steady (ends_missing mode dir (Name name) slash) ≡ done (Err ENOENT)
   missing_ended modes.Look dir name slash free = refl
   missing_ended modes.LookLink dir name slash free = refl
   missing_ended modes.Name dir name slash free = absurd cc
@@ -215,11 +213,11 @@ module _ (texts : TextSurroundings) (steady : Bool) (dir at : Text) (name : List
       at_wants true false h = absurd cc
       at_wants false is_dir h = refl
 
-  pub refused_ended : (mode : WalkMode) (slash is_dir : Bool) → (wants_directory mode slash && not is_dir) ≡ true → ended texts mode steady (ends_found mode is_dir (found_at dir at name jumped slash)) ≡ Err ENOTDIR
+  pub refused_ended : (mode : WalkMode) (slash is_dir : Bool) → (wants_directory mode slash && not is_dir) ≡ true → ended texts mode steady (ends_found mode is_dir (found_at dir at name jumped slash)) ≡ done (Err ENOTDIR)
   refused_ended mode slash is_dir wants = at_wants (wants_directory mode slash) is_dir wants
     where
       at_wants : (wants is_dir : Bool) → (wants && not is_dir) ≡ true
-          → ended texts mode steady (if wants then (if is_dir then ends (found_at dir at name jumped slash) else fails ENOTDIR) else ends (found_at dir at name jumped slash)) ≡ Err ENOTDIR
+          → ended texts mode steady (if wants then (if is_dir then ends (found_at dir at name jumped slash) else fails ENOTDIR) else ends (found_at dir at name jumped slash)) ≡ done (Err ENOTDIR)
       at_wants true true h = absurd cc
       at_wants true false h = refl
       at_wants false is_dir h = absurd cc
@@ -227,7 +225,7 @@ module _ (texts : TextSurroundings) (steady : Bool) (dir at : Text) (name : List
 -- ---- at a last name where a link stands
 
 module _ (texts : TextSurroundings) (terms : Terms) (dir at : Text) (name : List ℕ) where
-  abbrev pub arrived : SeenText → Result Ended Errno
+  abbrev pub arrived : SeenText → Left
   arrived seen = ended texts terms.mode terms.steady (last_trail texts terms dir (Name name) seen)
 
   -- behind a link with a text
@@ -257,7 +255,7 @@ module _ (texts : TextSurroundings) (terms : Terms) (dir at : Text) (name : List
       → IsFollowed terms.left start (Err e) → IsErr r → IsErrAnd r (λ f. f ≡ e) → Tells Q (arrived (Links at text)) r
   link_loops U Q text start (fault.Err e) r follows followed err same =
       let loops = ap (ended texts terms.mode terms.steady) (onward-none (looking_texts texts) terms.mode terms.left (start_of dir text) (components_of text) (terms.slash || has_slash text) followed.0) in
-      tells_error {T = U} Q Q _ (fault.Err e) r (link_if text true follows ∙ loops ∙ ap Err (sym followed.1)) err same
+      tells_error {T = U} Q Q _ (fault.Err e) r (link_if text true follows ∙ loops ∙ ap (λ e. done (Err e)) (sym followed.1)) err same
   link_loops U Q text start fault.NoMemory r follows followed err same = tells_want Q _ r err same
 
   -- a link of the process directory
@@ -307,7 +305,7 @@ module _ (texts : TextSurroundings) (terms : Terms) (dir at : Text) (name : List
         never true = refl
         never false = refl
 
-    pub lands_beside : wants_directory terms.mode terms.slash ≡ true → is_dir_kind (texts.peeked.kind (text_of (host_of texts.bindings guest))) ≡ false → arrived (Jumps at lead) ≡ Err ENOTDIR
+    pub lands_beside : wants_directory terms.mode terms.slash ≡ true → is_dir_kind (texts.peeked.kind (text_of (host_of texts.bindings guest))) ≡ false → arrived (Jumps at lead) ≡ done (Err ENOTDIR)
     lands_beside wants other =
         let l = landing.0 in
         let asks : (wants_directory terms.mode terms.slash && not l.is_dir) ≡ true = ap (λ w. w && not l.is_dir) wants ∙ ap not (is_dir_told ∙ other) in
@@ -315,19 +313,19 @@ module _ (texts : TextSurroundings) (terms : Terms) (dir at : Text) (name : List
 
 -- ---- along a path
 
-module _ (texts : TextSurroundings) (terms : Terms) (t : Text) where
-  pub along_last : (c : Component) → ended texts terms.mode terms.steady (left_on texts terms.mode terms.left t (c ∷ []) terms.slash) ≡ ended texts terms.mode (looked texts terms.steady t c) (last_trail texts terms t c (look_text texts t c))
-  along_last c = ap (ended texts terms.mode terms.steady) (walk-last (looking_texts texts) terms.mode terms.left t c terms.slash)
+module _ (texts : TextSurroundings) (terms : Terms) (unmet : Bool) (t : Text) where
+  pub along_last : (c : Component) → told texts terms.mode terms.steady unmet (left_on texts terms.mode terms.left t (c ∷ []) terms.slash) ≡ told texts terms.mode (looked texts terms.steady t c) (looked texts unmet t c) (last_trail texts terms t c (look_text texts t c))
+  along_last c = ap (told texts terms.mode terms.steady unmet) (walk-last (looking_texts texts) terms.mode terms.left t c terms.slash)
 
   pub along_middle : (c d : Component) (rest cs : List Component) → rest ≡ d ∷ cs
-      → ended texts terms.mode terms.steady (left_on texts terms.mode terms.left t (c ∷ rest) terms.slash) ≡ ended texts terms.mode (looked texts terms.steady t c) (middle_trail texts terms t rest (look_text texts t c))
+      → told texts terms.mode terms.steady unmet (left_on texts terms.mode terms.left t (c ∷ rest) terms.slash) ≡ told texts terms.mode (looked texts terms.steady t c) (looked texts unmet t c) (middle_trail texts terms t rest (look_text texts t c))
   along_middle c d rest cs e =
-      ap (λ cs. ended texts terms.mode terms.steady (left_on texts terms.mode terms.left t (c ∷ cs) terms.slash)) e
-      ∙ ap (ended texts terms.mode terms.steady) (walk-middle (looking_texts texts) terms.mode terms.left t c d cs terms.slash)
-      ∙ ap (λ cs. ended texts terms.mode (looked texts terms.steady t c) (middle_trail texts terms t cs (look_text texts t c))) (sym e)
+      ap (λ cs. told texts terms.mode terms.steady unmet (left_on texts terms.mode terms.left t (c ∷ cs) terms.slash)) e
+      ∙ ap (told texts terms.mode terms.steady unmet) (walk-middle (looking_texts texts) terms.mode terms.left t c d cs terms.slash)
+      ∙ ap (λ cs. told texts terms.mode (looked texts terms.steady t c) (looked texts unmet t c) (middle_trail texts terms t cs (look_text texts t c))) (sym e)
 
-pub way_same : (texts : TextSurroundings) (mode : WalkMode) (left : ℕ) (whole same : Result Ended Errno) (r : Result Way WalkErr) → whole ≡ same → Tells (WayIs texts mode left whole) whole r → Tells (WayIs texts mode left same) same r
-way_same texts mode left whole same r e h = let P : Result Ended Errno → Type 0 = λ whole. Tells (WayIs texts mode left whole) whole r in subst P e h
+pub way_same : (texts : TextSurroundings) (mode : WalkMode) (left : ℕ) (whole same : Left) (r : Result Way WalkErr) → whole ≡ same → Tells (WayIs texts mode left whole) whole r → Tells (WayIs texts mode left same) same r
+way_same texts mode left whole same r e h = let P : Left → Type 0 = λ whole. Tells (WayIs texts mode left whole) whole r in subst P e h
 
-pub goes_same : (texts : TextSurroundings) (mode : WalkMode) (left : ℕ) (whole same : Result Ended Errno) (on : Onward) → whole ≡ same → GoesOn texts mode left whole on → GoesOn texts mode left same on
-goes_same texts mode left whole same on e h = let P : Result Ended Errno → Type 0 = λ whole. GoesOn texts mode left whole on in subst P e h
+pub goes_same : (texts : TextSurroundings) (mode : WalkMode) (left : ℕ) (whole same : Left) (on : Onward) → whole ≡ same → GoesOn texts mode left whole on → GoesOn texts mode left same on
+goes_same texts mode left whole same on e h = let P : Left → Type 0 = λ whole. GoesOn texts mode left whole on in subst P e h

@@ -84,3 +84,9 @@ abbrev pub IsAnswer : {T : Type 0} → Result T Errno → Result T WalkErr → T
 IsAnswer answer (Ok x) = answer ≡ Ok x
 IsAnswer answer (Err (fault.Err e)) = answer ≡ Err e
 IsAnswer answer (Err fault.NoMemory) = Unit {0}
+
+-- whether the process directory is unmet still is noted, but for want of memory
+abbrev pub IsWalkNoted : {T : Type 0} → (after new : Bool) → Result T WalkErr → Type 0
+IsWalkNoted after new (Ok x) = new ≡ after
+IsWalkNoted after new (Err (fault.Err e)) = new ≡ after
+IsWalkNoted after new (Err fault.NoMemory) = Unit {0}

@@ -1,12 +1,15 @@
 -- Whether a walk is steady so far: each host path at which it looked was. No public clause cites this module.
-use Rattle.std.specs.Prelude.{◌≡◌, ℕ, ◌&&◌, Bool, true, List, [], ◌∷◌}
+use Rattle.std.specs.Prelude.{◌≡◌, ℕ, ◌&&◌, Bool, true, List, [], ◌∷◌, Option, Some, None, IfSome, Result, Ok, Err, if◌then◌else◌}
 use Rattle.pt_bind.specs.pr_base.Paths.{Component}
+use Rattle.pt_bind.specs.pr_base.Peeks.{Peeked}
 use Rattle.pt_bind.specs.pr_base.Texts.{Text}
 use Rattle.pt_bind.specs.pr_base.WalkFrame.{LookedAt}
 use Rattle.pt_bind.specs.Binding.{host_of}
 use Rattle.pt_canon.specs.Laws.{host_bytes}
 use Rattle.pt_canon.specs.LookedPaths.{paths_at, paths_in, paths_named}
 use Rattle.pt_canon.specs.TextWalk.{TextSurroundings, itself_in}
+use Rattle.pt_canon.specs.declared.canon.WalkErr.{WalkErr}
+use Rattle.pt_canon.specs.declared.canon.WalkErr.TheVariants as fault
 use Rattle.pt_canon.specs.declared.sight.Known.{Known}
 use Rattle.pt_canon.specs.declared.sight.Known.TheVariants as known
 
@@ -35,3 +38,19 @@ abbrev pub WasAsked : TextSurroundings → Text → Known → Bool → Type 0
 WasAsked texts t known.Nothing steady = Unit {0}
 WasAsked texts t known.Directory steady = steady ≡ true → texts.peeked.steady (host_bytes texts t) ≡ true
 WasAsked texts t known.Open steady = steady ≡ true → (texts.peeked.steady (host_bytes texts t) ≡ true) × (texts.peeked.steady (itself_in (host_of texts.bindings t)) ≡ true)
+
+-- what is noted once a guest text is gone into, by what was before: where nothing in it can be looked up, all of the look
+abbrev pub EntryNoted : TextSurroundings → Text → (old new : Bool) → Result (Unit {0}) WalkErr → Type 0
+EntryNoted texts t old new (Ok x) = new ≡ entered texts old t
+EntryNoted texts t old new (Err (fault.Err e)) = (c : Component) → new ≡ looked texts old t c
+EntryNoted texts t old new (Err fault.NoMemory) = Unit {0}
+
+-- ---- ahead of the looks
+
+-- the host text that is known to be steady is
+pub record IsSure (peeked : Peeked) (sure : Option (List ℕ)) : Type 0 where
+  pub steady : IfSome sure (λ host. peeked.steady host ≡ true)
+
+-- what is known ahead of a walk that leads straight to a guest text, by whether it is steady so far
+abbrev pub known_ahead : TextSurroundings → Bool → Text → Option (List ℕ)
+known_ahead texts steady t = if steady && texts.peeked.steady (host_bytes texts t) then Some (host_bytes texts t) else None

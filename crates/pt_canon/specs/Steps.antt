@@ -28,9 +28,18 @@ abbrev pub ended_by : WalkMode → Bool → Result (Target Text Text) Errno → 
 ended_by mode steady (Ok target) = Ok (record { ending = ending_of mode target; steady = steady })
 ended_by mode steady (Err e) = Err e
 
--- by whether it is so far
-abbrev pub ended : TextSurroundings → WalkMode → Bool → Trail Text Text → Result Ended Errno
-ended texts mode steady trail = ended_by mode (behind_looks texts steady trail.looks) trail.answer
+-- what is left of a walk: where it ends, and what is noted of its looks
+pub record Left : Type 0 where
+  pub ends : Result Ended Errno
+  pub noted : Bool → Bool
+
+-- by whether it is steady so far, and what was noted before
+abbrev pub ended : TextSurroundings → WalkMode → Bool → Trail Text Text → Left
+ended texts mode steady trail = record { ends = ended_by mode (behind_looks texts steady trail.looks) trail.answer; noted = λ unmet. behind_looks texts unmet trail.looks }
+
+-- where no look is left
+abbrev pub done : Result Ended Errno → Left
+done ends = record { ends = ends; noted = λ unmet. unmet }
 
 -- along components from a text
 abbrev pub left_on : TextSurroundings → WalkMode → ℕ → Text → List Component → Bool → Trail Text Text
@@ -46,18 +55,18 @@ last_trail texts terms t c seen = laws.last_trail (looking_texts texts) terms.mo
 -- ---- what a step answers
 
 -- what holds of its answer; an error is where the walk ends, but for want of memory
-abbrev pub Tells : {T : Type 0} → (T → Type 0) → Result Ended Errno → Result T WalkErr → Type 0
+abbrev pub Tells : {T : Type 0} → (T → Type 0) → Left → Result T WalkErr → Type 0
 Tells P whole (Ok x) = P x
-Tells P whole (Err (fault.Err e)) = whole ≡ Err e
+Tells P whole (Err (fault.Err e)) = whole ≡ done (Err e)
 Tells P whole (Err fault.NoMemory) = Unit {0}
 
 -- a walk that goes on behind a link, of which one less may follow, ends as the whole one does
-pub record GoesOn (texts : TextSurroundings) (mode : WalkMode) (left : ℕ) (whole : Result Ended Errno) (on : Onward) : Type 0 where
+pub record GoesOn (texts : TextSurroundings) (mode : WalkMode) (left : ℕ) (whole : Left) (on : Onward) : Type 0 where
   pub some : left ≢ 0
   pub ends : whole ≡ ended texts mode on.steady (left_on texts mode (left - 1) on.at (components_of on.path) on.slash)
 
-abbrev pub WayIs : TextSurroundings → WalkMode → ℕ → Result Ended Errno → Way → Type 0
-WayIs texts mode left whole (way.Ends ended) = whole ≡ Ok ended
+abbrev pub WayIs : TextSurroundings → WalkMode → ℕ → Left → Way → Type 0
+WayIs texts mode left whole (way.Ends ended) = whole ≡ done (Ok ended)
 WayIs texts mode left whole (way.Goes on) = GoesOn texts mode left whole on
 
 -- of a path up to its end, or up to the first link that is followed, by whether the walk is steady before that
@@ -69,7 +78,7 @@ pub record IsNoted (texts : TextSurroundings) (t : Text) (known : Known) (steady
   pub found : IsKnown texts t known
   pub asked : WasAsked texts t known steady
 
-abbrev pub PassedIs : TextSurroundings → Terms → List Component → Result Ended Errno → Passed → Type 0
+abbrev pub PassedIs : TextSurroundings → Terms → List Component → Left → Passed → Type 0
 PassedIs texts terms rest whole (passed.On at known steady) =
     (whole ≡ ended texts terms.mode steady (left_on texts terms.mode terms.left at rest terms.slash)) × IsNoted texts at known steady
 PassedIs texts terms rest whole (passed.Off on) = GoesOn texts terms.mode terms.left whole on
@@ -94,3 +103,28 @@ abbrev pub IsJumped : ℕ → Option (Landing Text Text) → Result Text WalkErr
 IsJumped left lead (Ok guest) = (left ≢ 0) × (led lead ≡ Some guest)
 IsJumped left lead (Err (fault.Err e)) = (go : Landing Text Text → Trail Text Text) → jumps_on left go lead ≡ fails e
 IsJumped left lead (Err fault.NoMemory) = Unit {0}
+
+-- ---- what is noted
+
+-- where a walk ends, and what is noted of it, by whether it is steady so far and what was noted before
+abbrev pub told : TextSurroundings → WalkMode → (steady unmet : Bool) → Trail Text Text → Result Ended Errno × Bool
+told texts mode steady unmet trail = ((ended texts mode steady trail).ends, behind_looks texts unmet trail.looks)
+
+pub record GoesBehind (texts : TextSurroundings) (mode : WalkMode) (left : ℕ) (whole : Result Ended Errno × Bool) (new : Bool) (on : Onward) : Type 0 where
+  pub some : left ≢ 0
+  pub ends : whole.0 ≡ (ended texts mode on.steady (left_on texts mode (left - 1) on.at (components_of on.path) on.slash)).ends
+  pub noted : behind_looks texts new (left_on texts mode (left - 1) on.at (components_of on.path) on.slash).looks ≡ whole.1
+
+-- of a path up to its end, or up to the first link that is followed, by what comes of the whole walk
+abbrev pub WayComes : TextSurroundings → WalkMode → ℕ → Result Ended Errno × Bool → (new : Bool) → Result Way WalkErr → Type 0
+WayComes texts mode left whole new (Ok (way.Ends end)) = (whole.0 ≡ Ok end) × (new ≡ whole.1)
+WayComes texts mode left whole new (Ok (way.Goes on)) = GoesBehind texts mode left whole new on
+WayComes texts mode left whole new (Err (fault.Err e)) = (whole.0 ≡ Err e) × (new ≡ whole.1)
+WayComes texts mode left whole new (Err fault.NoMemory) = Unit {0}
+
+-- behind a component that others follow, with what was asked where the walk goes on
+abbrev pub PassedNoted : TextSurroundings → (after new : Bool) → Result Passed WalkErr → Type 0
+PassedNoted texts after new (Ok (passed.On at known steady)) = (new ≡ after) × WasAsked texts at known new
+PassedNoted texts after new (Ok (passed.Off on)) = new ≡ after
+PassedNoted texts after new (Err (fault.Err e)) = new ≡ after
+PassedNoted texts after new (Err fault.NoMemory) = Unit {0}

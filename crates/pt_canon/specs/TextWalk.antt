@@ -1,7 +1,8 @@
 -- The walk of a tracer: the rules of a walk, over looking at guest texts by peeks.
 use Rattle.std.specs.Prelude.{ℕ, Bool, true, false, List, [], ◌∷◌, ◌++◌, Result, Ok, Err, if◌then◌else◌}
 use Rattle.pt_bind.specs.pr_base.MountText.{MountText}
-use Rattle.pt_bind.specs.pr_base.Paths.{Component, Dot, DotDot, Name, slash, dot, below_root, text_of}
+pub use Rattle.pt_bind.specs.pr_base.Paths.{itself_in}
+use Rattle.pt_bind.specs.pr_base.Paths.{Component, Dot, DotDot, Name, text_of}
 use Rattle.pt_bind.specs.pr_base.Peeks.{Peeked}
 use Rattle.pt_bind.specs.pr_base.Texts.{Text}
 use Rattle.pt_bind.specs.pr_base.WalkFrame.{Seen, Fails, Missing, Leads, Links, Jumps, Looking, Trail, walk}
@@ -53,10 +54,6 @@ abbrev pub inside_text : TextSurroundings → Text → Component → SeenText
 inside_text texts t Dot = Leads true t t
 inside_text texts t DotDot = Leads true (above t) (above t)
 inside_text texts t (Name name) = seen_text texts (name ∷ t)
-
--- the path of a directory itself, looked up in it: who finds it may search the directory
-abbrev pub itself_in : Text → List ℕ
-itself_in host = below_root host ++ slash ∷ dot
 
 -- a last link isn't followed, so it is no directory
 abbrev pub in_directory : Result PeekKind Errno → SeenText → SeenText

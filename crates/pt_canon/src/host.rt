@@ -1,7 +1,8 @@
 //! Peeks at host texts, as what they tell a walk.
-ghost use Rattle.std.specs.Prelude.{◌≡◌, IfOk, Ok};
-ghost use Rattle.pt_bind.specs.pr_base.Peeks.{IsPeeked};
+ghost use Rattle.std.specs.Prelude.{◌≡◌, ◌&&◌, IfOk, OnOk, Ok};
+ghost use Rattle.pt_bind.specs.pr_base.Peeks.{IsNoted, IsPeeked};
 ghost use Rattle.pt_bind.specs.Binding.{IsWritten, names_of};
+ghost use Rattle.pt_canon.specs.Canon.{IsWalkNoted};
 ghost use Rattle.pt_canon.specs.ProcessLinks.{is_dir_kind};
 ghost use Rattle.pt_canon.specs.TextWalk.{itself_in};
 ghost use Rattle.pt_canon.specs.Looks.{IsDirectoryTold, IsItselfTold};
@@ -16,6 +17,7 @@ use std::alloc::Global;
 pub(crate) fn kind_at<K: Peeks>(kernel: &mut K, host: &[u8]) -> Result<PeekKind, PeekFault>
     requires { IsWritten host.now }
     ensures answer { IsPeeked ((K.peeked kernel.old).kind host.now) result }
+    ensures noted { IsNoted (K.unmet kernel.old && (K.peeked kernel.old).steady host.now) (K.unmet kernel.new) result }
     ensures kernel { OnlyPeeks K.peeked K.kept kernel.old kernel.new }
 {
     kernel.kind(host)
@@ -25,6 +27,7 @@ pub(crate) fn kind_at<K: Peeks>(kernel: &mut K, host: &[u8]) -> Result<PeekKind,
 pub(crate) fn link_text_at<K: Peeks>(kernel: &mut K, host: &[u8]) -> Result<Bytes, PeekFault>
     requires { IsWritten host.now }
     ensures answer { IsPeeked ((K.peeked kernel.old).link_text host.now) result }
+    ensures noted { IsNoted (K.unmet kernel.old && (K.peeked kernel.old).steady host.now) (K.unmet kernel.new) result }
     ensures kernel { OnlyPeeks K.peeked K.kept kernel.old kernel.new }
 {
     kernel.link_text(host)
@@ -34,6 +37,7 @@ pub(crate) fn link_text_at<K: Peeks>(kernel: &mut K, host: &[u8]) -> Result<Byte
 pub(crate) fn is_directory<K: Peeks>(kernel: &mut K, host: &[u8]) -> Result<bool, NoMemory>
     requires { IsWritten host.now }
     ensures answer { IfOk result (λ is. is ≡ is_dir_kind ((K.peeked kernel.old).kind host.now)) }
+    ensures noted { OnOk result (K.unmet kernel.new ≡ (K.unmet kernel.old && (K.peeked kernel.old).steady host.now)) }
     ensures kernel { OnlyPeeks K.peeked K.kept kernel.old kernel.new }
 {
     match kind_at(kernel, host) {
@@ -47,6 +51,7 @@ pub(crate) fn is_directory<K: Peeks>(kernel: &mut K, host: &[u8]) -> Result<bool
 pub(crate) fn find_directory<K: Peeks>(kernel: &mut K, host: &[u8]) -> Result<(), WalkErr>
     requires { IsWritten host.now }
     ensures answer { IsDirectoryTold ((K.peeked kernel.old).kind host.now) result }
+    ensures noted { IsWalkNoted (K.unmet kernel.old && (K.peeked kernel.old).steady host.now) (K.unmet kernel.new) result }
     ensures kernel { OnlyPeeks K.peeked K.kept kernel.old kernel.new }
 {
     match kind_at(kernel, host)? {
@@ -64,6 +69,7 @@ pub(crate) fn find_itself<K: Peeks>(
 ) -> Result<(), WalkErr>
     requires { IsWritten host.now }
     ensures answer { IsItselfTold ((K.peeked kernel.old).kind (itself_in (names_of host.now))) result }
+    ensures noted { IsWalkNoted (K.unmet kernel.old && (K.peeked kernel.old).steady (itself_in (names_of host.now))) (K.unmet kernel.new) result }
     ensures kernel { OnlyPeeks K.peeked K.kept kernel.old kernel.new }
 {
     let itself = itself_in(alloc, host)?;
@@ -75,6 +81,7 @@ pub(crate) fn find_itself<K: Peeks>(
 pub(crate) fn is_steady<K: Peeks>(kernel: &mut K, host: &[u8]) -> Result<bool, NoMemory>
     requires { IsWritten host.now }
     ensures answer { IfOk result (λ steady. steady ≡ (K.peeked kernel.old).steady host.now) }
+    ensures unmet { K.unmet kernel.new ≡ K.unmet kernel.old }
     ensures kernel { OnlyPeeks K.peeked K.kept kernel.old kernel.new }
 {
     kernel.steady(host)
@@ -88,6 +95,7 @@ pub(crate) fn is_itself_steady<K: Peeks>(
 ) -> Result<bool, NoMemory>
     requires { IsWritten host.now }
     ensures answer { IfOk result (λ steady. steady ≡ (K.peeked kernel.old).steady (itself_in (names_of host.now))) }
+    ensures unmet { K.unmet kernel.new ≡ K.unmet kernel.old }
     ensures kernel { OnlyPeeks K.peeked K.kept kernel.old kernel.new }
 {
     let itself = itself_in(alloc, host)?;

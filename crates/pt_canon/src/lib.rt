@@ -20,8 +20,9 @@
 //! The host text and the index of an answer are those of its guest text (`answers_are_of_their_texts`).
 //!
 //! Only tested, or not shown: How many peeks a walk takes: three at most for each component, beside those of links, and what it was just told of
-//! a place it doesn't ask again; as many again tell whether it is steady, as long as it is, and none while a pause stands. That what is remembered
-//! is looked up. `canon_tests`: walks over a kernel in memory, and how many peeks they take.
+//! a place it doesn't ask again; one more tells of a path without a followed link whether it is steady, and one each of what doesn't stand in front
+//! of its host text; none does while a pause stands. That what is remembered is looked up. `canon_tests`: walks over a kernel in memory, and how many
+//! peeks they take.
 #![tactic(auto)]
 
 mod answers;
@@ -35,6 +36,7 @@ mod key;
 pub mod laws;
 pub mod link;
 mod sight;
+mod sure;
 mod translation;
 mod walk;
 pub mod walker;

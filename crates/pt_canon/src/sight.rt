@@ -1,9 +1,10 @@
 //! What a tracer sees of a guest text.
-ghost use Rattle.std.specs.Prelude.{◌≡◌, Result, Ok, Err};
-ghost use Rattle.pt_bind.specs.pr_base.Peeks.{IsPeeked};
+ghost use Rattle.std.specs.Prelude.{◌≡◌, Bool, Result, Ok, Err};
+ghost use Rattle.pt_bind.specs.pr_base.Peeks.{IsNoted, IsPeeked};
 ghost use Rattle.pt_bind.specs.pr_base.Texts.{Text};
 ghost use Rattle.pt_bind.specs.pr_base.declared.errno.Errno.{Errno};
 ghost use Rattle.pt_bind.specs.pr_base.declared.peeks.PeekKind.{PeekKind};
+ghost use Rattle.pt_canon.specs.Canon.{IsWalkNoted};
 ghost use Rattle.pt_canon.specs.TextWalk.{TextSurroundings, seen_kind};
 ghost use Rattle.pt_canon.specs.Looks.{IsSeen};
 
@@ -35,7 +36,8 @@ pub(crate) enum Sight {
 
 /// What a peek that wasn't answered shows.
 pub(crate) fn unseen(fault: PeekFault) -> Result<Sight, WalkErr>
-    ensures { (texts : TextSurroundings) (t host : Text) (told : Result PeekKind Errno) → IsPeeked told (Err fault) → IsSeen texts t (seen_kind texts t host told) result }
+    ensures seen { (texts : TextSurroundings) (t host : Text) (told : Result PeekKind Errno) → IsPeeked told (Err fault) → IsSeen texts t (seen_kind texts t host told) result }
+    ensures noted { (after new : Bool) → IsNoted {T = PeekKind} after new (Err fault) → IsWalkNoted after new result }
 {
     match fault {
         PeekFault::Err(Errno::ENOENT) => Ok(Sight::Missing),

@@ -1,22 +1,24 @@
 //! Looking at guest texts through the kernel that runs the process.
 ghost use Rattle.std.specs.Prelude.{◌≡◌, ◌&&◌, true, Ok, IfOk, IfSome};
 ghost use Rattle.std.specs.Option.{option_map};
-ghost use Rattle.pt_bind.specs.pr_base.Paths.{text_of};
+ghost use Rattle.pt_bind.specs.pr_base.Paths.{components_of, text_of};
 ghost use Rattle.pt_bind.specs.Binding.{IsWritten, guest_of, host_of, names_of, rows_of};
+ghost use Rattle.pt_canon.specs.Canon.{IsWalkNoted};
+ghost use Rattle.pt_canon.specs.Components.{straight};
 ghost use Rattle.pt_canon.specs.Laws.{host_bytes};
 ghost use Rattle.pt_canon.specs.ProcessLinks.{jump_at, landing_of, link_guest, link_name};
 ghost use Rattle.pt_canon.specs.TextWalk.{seen_kind, seen_text};
 ghost use Rattle.pt_canon.specs.Looks.{texts_in, led, IsKnown, IsEntered, IsSeen};
-ghost use Rattle.pt_canon.specs.Steadily.{WasAsked, entered};
+ghost use Rattle.pt_canon.specs.Steadily.{EntryNoted, IsSure, WasAsked, entered, known_ahead};
 ghost use Rattle.pt_canon.specs.Leaving.{OnlyPeeks};
 
 use crate::canon::WalkErr;
+use crate::component::straight;
 use crate::guest::Guest;
-use crate::host::{
-    find_directory, find_itself, is_itself_steady, is_steady, kind_at, link_text_at,
-};
+use crate::host::{find_directory, find_itself, is_steady, kind_at, link_text_at};
 use crate::link::{ProcessLink, link_at};
 use crate::sight::{Known, Sight, unseen};
+use crate::sure::Sure;
 use pt_bind::below::pr_base::{Bytes, NoMemory, PeekKind, Peeks};
 use pt_bind::{Table, Tags};
 use std::alloc::Global;
@@ -49,6 +51,8 @@ impl<'a> Translation<'a> {
     ) -> Result<(), WalkErr>
         requires { IsKnown (texts_in self.now (K.peeked kernel.old)) at.now known }
         ensures answer { IsEntered (texts_in self.now (K.peeked kernel.old)) at.now result }
+        ensures noted { let texts = texts_in self.now (K.peeked kernel.old) in
+            WasAsked texts at.now known (K.unmet kernel.old) → EntryNoted texts at.now (K.unmet kernel.old) (K.unmet kernel.new) result }
         ensures kernel { OnlyPeeks K.peeked K.kept kernel.old kernel.new }
     {
         match known {
@@ -65,17 +69,43 @@ impl<'a> Translation<'a> {
         }
     }
 
+    /// What is known ahead of a walk along a path, by whether it is steady so far. One host text is asked, that to which the path leads where no
+    /// link stands on it; none where the walk isn't steady.
+    pub(crate) fn ahead<K: Peeks>(
+        &self,
+        kernel: &mut K,
+        at: &Guest,
+        path: &[u8],
+        steady: bool,
+    ) -> Result<Sure, NoMemory>
+        ensures ahead { let texts = texts_in self.now (K.peeked kernel.old) in
+            IfOk result (λ sure. sure ≡ known_ahead texts steady (straight at.now (components_of path.now))) }
+        ensures unmet { K.unmet kernel.new ≡ K.unmet kernel.old }
+        ensures kernel { OnlyPeeks K.peeked K.kept kernel.old kernel.new }
+    {
+        if !steady {
+            return Ok(Sure::nothing());
+        }
+        let text = straight(self.alloc, at, path)?;
+        let host = self.host(&text)?;
+        let told = is_steady(kernel, host.as_slice())?;
+        Ok(Sure::by(host, told))
+    }
+
     /// Whether a walk is steady still that looks into a guest text, by whether it is so far. Of what isn't steady nothing
-    /// is asked, nor again what was asked before.
+    /// is asked, nor again what was asked before or is known.
     pub(crate) fn steady_in<K: Peeks>(
         &self,
         kernel: &mut K,
         at: &Guest,
         known: Known,
         steady: bool,
+        sure: &Sure,
     ) -> Result<bool, NoMemory>
-        requires { WasAsked (texts_in self.now (K.peeked kernel.old)) at.now known steady }
+        requires asked { WasAsked (texts_in self.now (K.peeked kernel.old)) at.now known steady }
+        requires sure { IsSure (K.peeked kernel.old) sure.now }
         ensures answer { IfOk result (λ still. still ≡ entered (texts_in self.now (K.peeked kernel.old)) steady at.now) }
+        ensures unmet { K.unmet kernel.new ≡ K.unmet kernel.old }
         ensures kernel { OnlyPeeks K.peeked K.kept kernel.old kernel.new }
     {
         if !steady {
@@ -85,23 +115,30 @@ impl<'a> Translation<'a> {
             Known::Open => Ok(true),
             Known::Directory => {
                 let host = self.host(at)?;
-                is_itself_steady(self.alloc, kernel, host.as_slice())
+                sure.is_itself_steady(self.alloc, kernel, host.as_slice())
             }
-            Known::Nothing => self.all_steady_in(kernel, at),
+            Known::Nothing => self.all_steady_in(kernel, at, sure),
         }
     }
 
     /// Whether a guest text is steady, and itself in it.
-    fn all_steady_in<K: Peeks>(&self, kernel: &mut K, at: &Guest) -> Result<bool, NoMemory>
+    fn all_steady_in<K: Peeks>(
+        &self,
+        kernel: &mut K,
+        at: &Guest,
+        sure: &Sure,
+    ) -> Result<bool, NoMemory>
+        requires { IsSure (K.peeked kernel.old) sure.now }
         ensures answer { IfOk result (λ still. still ≡ entered (texts_in self.now (K.peeked kernel.old)) true at.now) }
+        ensures unmet { K.unmet kernel.new ≡ K.unmet kernel.old }
         ensures kernel { OnlyPeeks K.peeked K.kept kernel.old kernel.new }
     {
         let host = self.host(at)?;
-        let steady = is_steady(kernel, host.as_slice())?;
+        let steady = sure.is_steady(kernel, host.as_slice())?;
         if !steady {
             return Ok(false);
         }
-        is_itself_steady(self.alloc, kernel, host.as_slice())
+        sure.is_itself_steady(self.alloc, kernel, host.as_slice())
     }
 
     /// Whether a walk is steady still that looks at a guest text, by whether it is so far.
@@ -110,20 +147,25 @@ impl<'a> Translation<'a> {
         kernel: &mut K,
         at: &Guest,
         steady: bool,
+        sure: &Sure,
     ) -> Result<bool, NoMemory>
+        requires { IsSure (K.peeked kernel.old) sure.now }
         ensures answer { let texts = texts_in self.now (K.peeked kernel.old) in IfOk result (λ still. still ≡ (steady && texts.peeked.steady (host_bytes texts at.now))) }
+        ensures unmet { K.unmet kernel.new ≡ K.unmet kernel.old }
         ensures kernel { OnlyPeeks K.peeked K.kept kernel.old kernel.new }
     {
         if !steady {
             return Ok(false);
         }
         let host = self.host(at)?;
-        is_steady(kernel, host.as_slice())
+        sure.is_steady(kernel, host.as_slice())
     }
 
     /// What stands at a guest text of which the directory may be searched.
     pub(crate) fn see<K: Peeks>(&self, kernel: &mut K, at: &Guest) -> Result<Sight, WalkErr>
         ensures answer { let texts = texts_in self.now (K.peeked kernel.old) in IsSeen texts at.now (seen_text texts at.now) result }
+        ensures noted { let texts = texts_in self.now (K.peeked kernel.old) in
+            IsWalkNoted (K.unmet kernel.old && texts.peeked.steady (host_bytes texts at.now)) (K.unmet kernel.new) result }
         ensures kernel { OnlyPeeks K.peeked K.kept kernel.old kernel.new }
     {
         let host = self.host(at)?;
@@ -144,6 +186,8 @@ impl<'a> Translation<'a> {
         requires written { IsWritten host.now }
         requires host { host.now ≡ host_bytes (texts_in self.now (K.peeked kernel.old)) at.now }
         ensures answer { let texts = texts_in self.now (K.peeked kernel.old) in IsSeen texts at.now (seen_kind texts at.now (host_of texts.bindings at.now) (Ok kind)) result }
+        ensures noted { WasAsked (texts_in self.now (K.peeked kernel.old)) at.now Known.Directory (K.unmet kernel.old)
+            → IsWalkNoted (K.unmet kernel.old) (K.unmet kernel.new) result }
         ensures kernel { OnlyPeeks K.peeked K.kept kernel.old kernel.new }
     {
         match kind {
@@ -166,6 +210,7 @@ impl<'a> Translation<'a> {
     ) -> Result<Option<Guest>, NoMemory>
         ensures answer { let texts = texts_in self.now (K.peeked kernel.old) in
             IfOk result (λ guest. guest ≡ led (jump_at texts.bindings texts.peeked texts.tags (host_of texts.bindings link.now))) }
+        ensures unmet { K.unmet kernel.new ≡ K.unmet kernel.old }
         ensures kernel { OnlyPeeks K.peeked K.kept kernel.old kernel.new }
     {
         let host = self.host(link)?;
@@ -183,6 +228,7 @@ impl<'a> Translation<'a> {
     ) -> Result<Option<Guest>, NoMemory>
         ensures answer { let texts = texts_in self.now (K.peeked kernel.old) in
             IfOk result (λ guest. guest ≡ led (landing_of texts.bindings texts.peeked texts.tags link)) }
+        ensures unmet { K.unmet kernel.new ≡ K.unmet kernel.old }
         ensures kernel { OnlyPeeks K.peeked K.kept kernel.old kernel.new }
     {
         match link_name(self.alloc, kernel, link)? {
@@ -224,6 +270,7 @@ fn link_name<K: Peeks>(
 ) -> Result<Option<Bytes>, NoMemory>
     ensures name { IfOk result (λ name. option_map names_of name ≡ link_name (K.peeked kernel.old) link) }
     ensures written { IfOk result (λ name. IfSome name IsWritten) }
+    ensures unmet { K.unmet kernel.new ≡ K.unmet kernel.old }
     ensures kernel { OnlyPeeks K.peeked K.kept kernel.old kernel.new }
 {
     match link {

@@ -4,14 +4,14 @@ ghost use Rattle.pt_bind.specs.pr_base.Paths.{Dot, DotDot, Name, slash, componen
 ghost use Rattle.pt_bind.specs.pr_base.WalkFrame.{Missing, Leads, Links, is_followed, wants_directory, may_be_free, target_at};
 ghost use Rattle.pt_bind.specs.pr_base.declared.path.Last.TheVariants as last;
 ghost use Rattle.pt_bind.specs.Binding.{IsWritten, host_of, names_of, rows_of};
-ghost use Rattle.pt_canon.specs.Canon.{canon_at, ending_of, IsAnswer};
+ghost use Rattle.pt_canon.specs.Canon.{canon_at, ending_of, IsAnswer, IsWalkNoted};
 ghost use Rattle.pt_canon.specs.Components.{component_data};
 ghost use Rattle.pt_canon.specs.ProcessLinks.{above, jump_at};
 ghost use Rattle.pt_canon.specs.TextWalk.{TextSurroundings, look_text, seen_text, text_walk};
 ghost use Rattle.pt_canon.specs.Looks.{texts_in, sight_seen, IsKnown};
 ghost use Rattle.pt_canon.specs.declared.sight.Sight.TheVariants as sights;
-ghost use Rattle.pt_canon.specs.Steadily.{WasAsked, looked};
-ghost use Rattle.pt_canon.specs.Steps.{ended, left_on, middle_trail, last_trail, start_of, IsFollowed, IsJumped, IsPassed, IsWay};
+ghost use Rattle.pt_canon.specs.Steadily.{IsSure, WasAsked, behind_looks, looked};
+ghost use Rattle.pt_canon.specs.Steps.{ended, left_on, middle_trail, last_trail, start_of, told, IsFollowed, IsJumped, IsPassed, IsWay, PassedNoted, WayComes};
 ghost use Rattle.pt_canon.specs.Leaving.{OnlyPeeks};
 
 use crate::canon::{Canon, WalkErr};
@@ -20,6 +20,7 @@ use crate::ending::{Ended, Ending};
 use crate::guest::Guest;
 use crate::host::is_directory;
 use crate::sight::{Known, Sight};
+use crate::sure::Sure;
 use crate::translation::Translation;
 use pt_bind::below::pr_base::limits::MOST_LINKS;
 use pt_bind::below::pr_base::{Bytes, Errno, Last, NoMemory, Peeks, WalkMode, components};
@@ -171,7 +172,9 @@ impl<'a> Translation<'a> {
     ) -> Result<Ended, WalkErr>
         requires { IsWritten base.now }
         ensures answer { let texts = texts_in self.now (K.peeked kernel.old) in
-            IsAnswer (ended texts mode asks (text_walk texts mode (names_of base.now) path.now)) result }
+            IsAnswer (ended texts mode asks (text_walk texts mode (names_of base.now) path.now)).ends result }
+        ensures noted { let texts = texts_in self.now (K.peeked kernel.old) in
+            IsWalkNoted (behind_looks texts (K.unmet kernel.old) (text_walk texts mode (names_of base.now) path.now).looks) (K.unmet kernel.new) result }
         ensures kernel { OnlyPeeks K.peeked K.kept kernel.old kernel.new }
     {
         let mut onward = self.begin(base, path, asks)?;
@@ -215,8 +218,8 @@ impl<'a> Translation<'a> {
         mode: WalkMode,
         left: u32,
     ) -> Result<Way, WalkErr>
-        ensures answer { let texts = texts_in self.now (K.peeked kernel.old) in
-            IsWay texts mode left onward.steady (left_on texts mode left onward.at (components_of onward.path) onward.slash) result }
+        ensures answer { let texts = texts_in self.now (K.peeked kernel.old) in let trail = left_on texts mode left onward.at (components_of onward.path) onward.slash in
+            WayComes texts mode left (told texts mode onward.steady (K.unmet kernel.old) trail) (K.unmet kernel.new) result }
         ensures kernel { OnlyPeeks K.peeked K.kept kernel.old kernel.new }
     {
         let Onward {
@@ -236,6 +239,7 @@ impl<'a> Translation<'a> {
             };
             return Ok(Way::Ends(ends_here(at, terms)));
         };
+        let sure = self.ahead(kernel, &at, path.as_slice(), steady)?;
         'parts: loop {
             let terms = Terms {
                 mode,
@@ -246,9 +250,9 @@ impl<'a> Translation<'a> {
             let behind = parts.rest();
             let component = component_of(part);
             let Some(following) = parts.next() else {
-                return self.at_last(kernel, at, known, component, terms);
+                return self.at_last(kernel, at, known, component, terms, &sure);
             };
-            match self.in_middle(kernel, at, known, component, behind, terms)? {
+            match self.in_middle(kernel, at, known, component, behind, terms, &sure)? {
                 Passed::On(on, found, still) => {
                     at = on;
                     known = found;
@@ -269,22 +273,26 @@ impl<'a> Translation<'a> {
         component: Component<'_>,
         behind: &[u8],
         terms: Terms,
+        sure: &Sure,
     ) -> Result<Passed, WalkErr>
         requires known { IsKnown (texts_in self.now (K.peeked kernel.old)) at known }
         requires asked { WasAsked (texts_in self.now (K.peeked kernel.old)) at known terms.steady }
+        requires sure { IsSure (K.peeked kernel.old) sure.now }
         requires component { IsComponent (component_data component) }
         ensures answer { let texts = texts_in self.now (K.peeked kernel.old) in let rest = components_of behind.now in let c = component_data component.entry in
             IsPassed texts terms rest (looked texts terms.steady at c) (middle_trail texts terms at rest (look_text texts at c)) result }
+        ensures noted { let texts = texts_in self.now (K.peeked kernel.old) in
+            WasAsked texts at known (K.unmet kernel.old) → PassedNoted texts (looked texts (K.unmet kernel.old) at (component_data component.entry)) (K.unmet kernel.new) result }
         ensures kernel { OnlyPeeks K.peeked K.kept kernel.old kernel.new }
     {
         self.enter(kernel, &at, known)?;
-        let steady = self.steady_in(kernel, &at, known, terms.steady)?;
+        let steady = self.steady_in(kernel, &at, known, terms.steady, sure)?;
         match component {
             Component::Dot => Ok(Passed::On(at, Known::Open, steady)),
             Component::DotDot => Ok(Passed::On(at.above(), Known::Nothing, steady)),
             Component::Name(name) => {
                 let entry = at.child(name)?;
-                let still = self.steady_at(kernel, &entry, steady)?;
+                let still = self.steady_at(kernel, &entry, steady, sure)?;
                 let sight = self.see(kernel, &entry)?;
                 let ahead = Terms {
                     steady: still,
@@ -308,6 +316,8 @@ impl<'a> Translation<'a> {
         requires asked { WasAsked (texts_in self.now (K.peeked kernel.old)) at Known.Directory terms.steady }
         ensures answer { let texts = texts_in self.now (K.peeked kernel.old) in let rest = components_of behind.now in
             IsPassed texts terms rest terms.steady (middle_trail texts terms (above at) rest (sight_seen texts at sight)) result }
+        ensures noted { let texts = texts_in self.now (K.peeked kernel.old) in
+            WasAsked texts at Known.Directory (K.unmet kernel.old) → PassedNoted texts (K.unmet kernel.old) (K.unmet kernel.new) result }
         ensures kernel { OnlyPeeks K.peeked K.kept kernel.old kernel.new }
     {
         match sight {
@@ -345,23 +355,27 @@ impl<'a> Translation<'a> {
         known: Known,
         component: Component<'_>,
         terms: Terms,
+        sure: &Sure,
     ) -> Result<Way, WalkErr>
         requires known { IsKnown (texts_in self.now (K.peeked kernel.old)) at known }
         requires asked { WasAsked (texts_in self.now (K.peeked kernel.old)) at known terms.steady }
+        requires sure { IsSure (K.peeked kernel.old) sure.now }
         requires component { IsComponent (component_data component) }
         ensures answer { let texts = texts_in self.now (K.peeked kernel.old) in let c = component_data component.entry in
             IsWay texts terms.mode terms.left (looked texts terms.steady at c) (last_trail texts terms at c (look_text texts at c)) result }
+        ensures noted { let texts = texts_in self.now (K.peeked kernel.old) in
+            WasAsked texts at known (K.unmet kernel.old) → IsWalkNoted (looked texts (K.unmet kernel.old) at (component_data component.entry)) (K.unmet kernel.new) result }
         ensures kernel { OnlyPeeks K.peeked K.kept kernel.old kernel.new }
     {
         self.enter(kernel, &at, known)?;
-        let steady = self.steady_in(kernel, &at, known, terms.steady)?;
+        let steady = self.steady_in(kernel, &at, known, terms.steady, sure)?;
         let here = Terms { steady, ..terms };
         match component {
             Component::Dot => Ok(Way::Ends(ends_at_dot(at, here))),
             Component::DotDot => Ok(Way::Ends(ends_at_dot_dot(at, here))),
             Component::Name(name) => {
                 let entry = at.child(name)?;
-                let still = self.steady_at(kernel, &entry, steady)?;
+                let still = self.steady_at(kernel, &entry, steady, sure)?;
                 let sight = self.see(kernel, &entry)?;
                 let there = Terms {
                     steady: still,
@@ -382,6 +396,7 @@ impl<'a> Translation<'a> {
     ) -> Result<Way, WalkErr>
         ensures answer { let texts = texts_in self.now (K.peeked kernel.old) in (dir : List (List ℕ)) (name : List ℕ) → at ≡ name ∷ dir
             → IsWay texts terms.mode terms.left terms.steady (last_trail texts terms dir (Name name) (sight_seen texts at sight)) result }
+        ensures noted { (sight ≡ Sight.Jumps → K.unmet kernel.old ≡ false) → IsWalkNoted (K.unmet kernel.old) (K.unmet kernel.new) result }
         ensures kernel { OnlyPeeks K.peeked K.kept kernel.old kernel.new }
     {
         match sight {
@@ -404,6 +419,7 @@ impl<'a> Translation<'a> {
     fn jump<K: Peeks>(&self, kernel: &mut K, link: &Guest, left: u32) -> Result<Guest, WalkErr>
         ensures answer { let texts = texts_in self.now (K.peeked kernel.old) in
             IsJumped left (jump_at texts.bindings texts.peeked texts.tags (host_of texts.bindings link.now)) result }
+        ensures unmet { K.unmet kernel.new ≡ K.unmet kernel.old }
         ensures kernel { OnlyPeeks K.peeked K.kept kernel.old kernel.new }
     {
         if left == 0 {
@@ -421,6 +437,7 @@ impl<'a> Translation<'a> {
         requires { is_followed terms.mode terms.slash ≡ true }
         ensures answer { let texts = texts_in self.now (K.peeked kernel.old) in (dir : List (List ℕ)) (name : List ℕ) →
             IsWay texts terms.mode terms.left terms.steady (last_trail texts terms dir (Name name) (sight_seen texts link.now Sight.Jumps)) result }
+        ensures noted { K.unmet kernel.old ≡ false → IsWalkNoted (K.unmet kernel.old) (K.unmet kernel.new) result }
         ensures kernel { OnlyPeeks K.peeked K.kept kernel.old kernel.new }
     {
         let guest = self.jump(kernel, link, terms.left)?;

@@ -2,7 +2,7 @@
 ghost use Rattle.std.specs.Prelude.{◌≡◌, ◌≢◌, ◌+◌, ◌-◌, ◌^◌, ◌<◌, ◌==◌, ◌&&◌, [], None, length, IfOk, IfSome};
 ghost use Rattle.std.specs.Map.{lookup};
 ghost use Rattle.pt_bind.specs.Binding.{IsWritten, names_of};
-ghost use Rattle.pt_canon.specs.Canon.{IsAnswer, canon_of, texts_by};
+ghost use Rattle.pt_canon.specs.Canon.{IsAnswer, IsWalkNoted, canon_of, texts_by};
 ghost use Rattle.pt_canon.specs.Leaving.{OnlyPeeks};
 ghost use Rattle.pt_canon.specs.Remembering.{Agrees, WalksOn, after_walk, is_steady_key, key_of, same_key};
 ghost use Rattle.pt_canon.specs.Walked.{answer_of, noted, recalled};
@@ -109,6 +109,8 @@ impl Walker {
         ensures remembered { let key = key_of base.now path.now mode in
             self.new ≡ after_walk self.old (is_steady_key (texts_by self.old.table (K.peeked kernel.old) tags.now) key) key result }
         ensures walker { WalksOn (K.peeked kernel.old) self.old self.new }
+        ensures noted { let key = key_of base.now path.now mode in
+            IsWalkNoted (K.unmet kernel.old && is_steady_key (texts_by self.old.table (K.peeked kernel.old) tags.now) key) (K.unmet kernel.new) result }
         ensures kernel { OnlyPeeks K.peeked K.kept kernel.old kernel.new }
     {
         self.answer(kernel, tags, base, path, mode)
@@ -129,6 +131,8 @@ impl Walker {
         ensures written { IfOk result (λ canon. IsWritten canon.guest) }
         ensures remembered { let key = key_of base.now path.now mode in
             self.new ≡ after_walk self.old (is_steady_key (texts_by self.old.table (K.peeked kernel.old) tags.now) key) key result }
+        ensures noted { let key = key_of base.now path.now mode in
+            IsWalkNoted (K.unmet kernel.old && is_steady_key (texts_by self.old.table (K.peeked kernel.old) tags.now) key) (K.unmet kernel.new) result }
         ensures kernel { OnlyPeeks K.peeked K.kept kernel.old kernel.new }
     {
         if self.pauses != 0 {
@@ -154,6 +158,8 @@ impl Walker {
         ensures written { IfOk result (λ canon. IsWritten canon.guest) }
         ensures remembered { let key = key_of base.now path.now mode in
             self.new ≡ after_walk self.old (is_steady_key (texts_by self.old.table (K.peeked kernel.old) tags.now) key) key result }
+        ensures noted { let key = key_of base.now path.now mode in
+            IsWalkNoted (K.unmet kernel.old && is_steady_key (texts_by self.old.table (K.peeked kernel.old) tags.now) key) (K.unmet kernel.new) result }
         ensures kernel { OnlyPeeks K.peeked K.kept kernel.old kernel.new }
     {
         let key = Key::of(self.alloc, base, path, mode)?;
@@ -192,6 +198,8 @@ impl Walker {
         ensures steady { let key = key_of base.now path.now mode in
             IfOk result (λ walked. walked.steady ≡ (asks && is_steady_key (texts_by self.now.table (K.peeked kernel.old) tags.now) key)) }
         ensures written { IfOk result (λ walked. IsWritten walked.canon.guest) }
+        ensures noted { let key = key_of base.now path.now mode in
+            IsWalkNoted (K.unmet kernel.old && is_steady_key (texts_by self.now.table (K.peeked kernel.old) tags.now) key) (K.unmet kernel.new) result }
         ensures kernel { OnlyPeeks K.peeked K.kept kernel.old kernel.new }
     {
         let translation = Translation {

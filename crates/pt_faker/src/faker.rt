@@ -192,6 +192,7 @@ fn sets_mode(mode: u32) -> Due
 }
 
 impl Stops for Faker {
+    ghost use Rattle.std.specs.Prelude.{false};
     ghost use Rattle.pt_faker.specs.Faking.{born, entered, exited, gone};
 
     ghost enters = { λ x t y u. (y, u) ≡ entered x t };
@@ -201,6 +202,8 @@ impl Stops for Faker {
     ghost bears = { λ x parent child y. y ≡ born x parent child };
 
     ghost forgets = { λ x pid y. y ≡ gone x pid };
+
+    ghost asks = { λ x t. false };
 
     ghost agrees = { λ x t user. Unit {0} };
 

@@ -16,7 +16,7 @@ pub enum Watch {
 }
 
 impl Stops for Watch {
-    ghost use Rattle.std.specs.Prelude.{◌≡◌};
+    ghost use Rattle.std.specs.Prelude.{◌≡◌, false};
     ghost use Rattle.pt_faker.specs.Watches.{born, entered, exited, gone};
 
     ghost enters = { λ x t y u. (y, u) ≡ entered x t };
@@ -26,6 +26,8 @@ impl Stops for Watch {
     ghost bears = { λ x parent child y. y ≡ born x parent child };
 
     ghost forgets = { λ x pid y. y ≡ gone x pid };
+
+    ghost asks = { λ x t. false };
 
     ghost agrees = { λ x t user. Unit {0} };
 
@@ -69,6 +71,7 @@ impl Stops for Watch {
 }
 
 impl Graphed for Watch {
+    ghost use Rattle.std.specs.Prelude.{false, refl};
     ghost use Rattle.pt_faker.specs.Watches.{watch};
     ghost use Rattle.pt_faker.specs.declared.watch.Watch.{Watch};
 
@@ -78,7 +81,11 @@ impl Graphed for Watch {
 
     ghost does = { watch };
 
+    ghost asked = { λ x t. false };
+
     fn is_graph() {
         faker_is_its_definition();
     }
+
+    ghost asks_by_part = { λ x t. refl };
 }

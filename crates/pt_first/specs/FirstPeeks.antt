@@ -1,6 +1,6 @@
 -- What a tracer is told before a process lives: what walks of the host's own view find then, where the process directory has no names and
 -- a last link isn't followed.
-use Rattle.std.specs.Prelude.{ℕ, Bool, List, [], Option, None, Result, Err}
+use Rattle.std.specs.Prelude.{ℕ, Bool, List, None, Result, Err}
 use Rattle.pr_words.specs.pr_base.Peeks.{Peeked}
 use Rattle.pr_words.specs.pr_base.declared.errno.Errno.{Errno}
 use Rattle.pr_words.specs.pr_base.declared.errno.Errno.TheVariants.{EINVAL}
@@ -18,8 +18,14 @@ use Rattle.kr_first.specs.kr_view.Walk.{PlaceTarget, PlaceTrail, place_walk}
 use Rattle.kr_first.specs.kr_model.Peeks.{body_text, head_at, kind_along, kind_seen, read_of, steady_along}
 use Rattle.kr_first.specs.Starting.{around}
 
--- a tree, in the name of a user
+-- a tree, in the name of a user, and whether the process directory is unmet so far
 pub record Asked : Type 0 where
+  pub tree : Tree
+  pub user : User
+  pub unmet : Bool
+
+-- and what a peek leaves
+pub record Left : Type 0 where
   pub tree : Tree
   pub user : User
 

@@ -13,8 +13,8 @@ use Rattle.pt_script.specs.pt_canon.TextWalk.{TextSurroundings}
 use Rattle.pt_script.specs.pt_canon.declared.canon.Canon.{Canon}
 use Rattle.pt_script.specs.pt_args.Edits.{longest_path}
 use Rattle.pt_script.specs.pt_args.Walks.{and_then}
-use Rattle.pt_script.specs.Expanding.{expanded_from}
-use Rattle.pt_script.specs.Programs.{canon_from, program_from}
+use Rattle.pt_script.specs.Expanding.{expanded_from, unmet_from}
+use Rattle.pt_script.specs.Programs.{canon_from, canon_unmet, program_from, program_unmet}
 use Rattle.pt_script.specs.declared.expansion.Expanded.{Expanded}
 use Rattle.pt_script.specs.declared.program.Program.{Program}
 use Rattle.pt_script.specs.kr_calls.Expansion.{bytes_with_ends}
@@ -36,7 +36,7 @@ first_pid = 2
 abbrev pub tagged : TagTable → Begun → TagTable
 tagged tags begun = with_tag (with_tag tags first_pid slot.Cwd begun.cwd) first_pid slot.Exe begun.exe
 
--- a working directory is told by its guest text; nothing is reached before the kernel's own walks
+-- a working directory is told by its guest text; no name is reached before the kernel's own walks
 abbrev pub begun : List MountText → List (List ℕ) → ℕ × ℕ → List ℕ → Expanded → Begun
 begun bindings env ids working program = record {
   first = record {
@@ -50,6 +50,10 @@ begun bindings env ids working program = record {
   cwd = index_of bindings (names_of working);
   exe = program.index;
 }
+
+-- the first process with whether the walks that found it looked up a name in the process directory
+abbrev pub noting : Bool → First → First
+noting met first = record { path = first.path; args = first.args; env = first.env; cwd = first.cwd; ids = first.ids; reach = record { longest = first.reach.longest; met_proc = met } }
 
 -- ---- what is looked for
 
@@ -129,6 +133,55 @@ module _ (texts : TextSurroundings) where
   abbrev pub guest_start : Launch → Result Begun Errno
   guest_start launch = started_in (working_directory launch.cwd) launch
 
+  -- ---- whether the process directory is unmet still, by whether it was before
+
+  abbrev pub unmet_within : Result Canon Errno → Bool → Bool
+  unmet_within (Ok canon) unmet = canon_unmet texts dot canon.guest unmet
+  unmet_within (Err e) unmet = unmet
+
+  abbrev pub directory_unmet : List ℕ → Bool → Bool
+  directory_unmet path unmet = unmet_within (canon_from texts path root_text) (canon_unmet texts path root_text unmet)
+
+  abbrev pub working_unmet : List ℕ → Bool → Bool
+  working_unmet path unmet = if is_walked path then directory_unmet path unmet else unmet
+
+  module _ (working : List ℕ) where
+    abbrev pub there_unmet : List ℕ → Bool → Bool
+    there_unmet path unmet = if is_walked path then program_unmet texts (Some working) path unmet else unmet
+
+    -- up to the first candidate that is a program
+    unfoldable pub searched_unmet : List ℕ → List (List ℕ) → Bool → Bool
+    searched_unmet word [] unmet = unmet
+    searched_unmet word (dir ∷ dirs) unmet =
+        if is_there working (candidate dir word) then there_unmet (candidate dir word) unmet else searched_unmet word dirs (there_unmet (candidate dir word) unmet)
+
+    abbrev pub chosen_unmet : List (List ℕ) → List ℕ → Bool → Bool
+    chosen_unmet env word unmet = if has_slash word then unmet else searched_unmet word (directories (path_of env)) unmet
+
+    abbrev pub handed_unmet : List ℕ → Bool → Bool
+    handed_unmet path unmet = canon_unmet texts path (base_of working path) unmet
+
+    abbrev pub unmet_with_lists : List (List ℕ) → List (List ℕ) → List ℕ → Bool → Bool
+    unmet_with_lists args env path unmet =
+        if are_too_big args env then program_unmet texts (Some working) path unmet else unmet_from texts (Some working) (bytes_with_ends env) path args unmet
+
+    abbrev pub unmet_handed : List (List ℕ) → List (List ℕ) → List ℕ → Result Canon Errno → Bool → Bool
+    unmet_handed args env path (Ok canon) unmet = unmet_with_lists args env path unmet
+    unmet_handed args env path (Err e) unmet = unmet
+
+    abbrev pub run_unmet : List (List ℕ) → List (List ℕ) → List ℕ → Bool → Bool
+    run_unmet args env path unmet = if is_walked path then unmet_handed args env path (handed working path) (handed_unmet path unmet) else unmet
+
+    abbrev pub unmet_at : Launch → Option (List ℕ) → Bool → Bool
+    unmet_at launch None unmet = unmet
+    unmet_at launch (Some path) unmet = run_unmet (arguments launch.command) launch.env path unmet
+
+    abbrev pub unmet_in : Launch → Bool → Bool
+    unmet_in launch unmet = unmet_at launch (chosen working launch.env (word_of launch.command)) (chosen_unmet launch.env (word_of launch.command) unmet)
+
+  abbrev pub start_unmet : Launch → Bool → Bool
+  start_unmet launch unmet = unmet_in (working_directory launch.cwd) launch (working_unmet launch.cwd unmet)
+
 -- ---- what the code answers
 
 -- a start is this one, and its process has its tags; else they are as they were
@@ -136,3 +189,15 @@ abbrev pub IsBegun : Result Begun Errno → TagTable → TagTable → Result Fir
 IsBegun answer old new (Ok first) = (b : Begun) × (answer ≡ Ok b) × (first ≡ b.first) × (new ≡ tagged old b)
 IsBegun answer old new (Err (fault.Err e)) = (answer ≡ Err e) × (new ≡ old)
 IsBegun answer old new (Err fault.NoMemory) = new ≡ old
+
+-- and with whether its walks looked up a name in the process directory
+abbrev pub IsBegunNoting : (met : Bool) → Result Begun Errno → TagTable → TagTable → Result First StartFault → Type 0
+IsBegunNoting met answer old new (Ok first) = (b : Begun) × (answer ≡ Ok b) × (first ≡ noting met b.first) × (new ≡ tagged old b)
+IsBegunNoting met answer old new (Err (fault.Err e)) = (answer ≡ Err e) × (new ≡ old)
+IsBegunNoting met answer old new (Err fault.NoMemory) = new ≡ old
+
+-- whether the process directory is unmet still is noted, but for want of memory
+abbrev pub IsStartNoted : (after new : Bool) → Result First StartFault → Type 0
+IsStartNoted after new (Ok first) = new ≡ after
+IsStartNoted after new (Err (fault.Err e)) = new ≡ after
+IsStartNoted after new (Err fault.NoMemory) = Unit {0}

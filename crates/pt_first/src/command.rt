@@ -1,8 +1,8 @@
 //! The command, searched in the directories of PATH where its word has no slash.
-ghost use Rattle.std.specs.Prelude.{◌≡◌, IfOk, map};
+ghost use Rattle.std.specs.Prelude.{◌≡◌, IfOk, OnOk, map};
 ghost use Rattle.kr_first.specs.pt_bind.Binding.{IsWritten};
 ghost use Rattle.pt_script.specs.pt_canon.Canon.{texts_by};
-ghost use Rattle.pt_first.specs.GuestStart.{chosen, is_there, searched};
+ghost use Rattle.pt_first.specs.GuestStart.{chosen, chosen_unmet, is_there, searched, searched_unmet, there_unmet};
 ghost use Rattle.pt_script.specs.pt_canon.Leaving.{OnlyPeeks};
 ghost use Rattle.pt_script.specs.pt_canon.Remembering.{Agrees, WalksOn};
 
@@ -25,6 +25,8 @@ impl<'a> Launcher<'a> {
         ensures there { let texts = texts_by walker.old.table (K.peeked kernel.old) self.now.tags.now in
             IfOk result (λ there. there ≡ is_there texts self.now.working.now path.now) }
         ensures walker { WalksOn (K.peeked kernel.old) walker.old walker.new }
+        ensures noted { let texts = texts_by walker.old.table (K.peeked kernel.old) self.now.tags.now in
+            OnOk result (K.unmet kernel.new ≡ there_unmet texts self.now.working.now path.now (K.unmet kernel.old)) }
         ensures kernel { OnlyPeeks K.peeked K.kept kernel.old kernel.new }
     {
         if !is_walked(path) {
@@ -44,7 +46,7 @@ impl<'a> Launcher<'a> {
     }
 
     /// The first candidate in some directories that is a program.
-    #[tactic(auto, unfolding(crate::specs::GuestStart::searched))]
+    #[tactic(auto, unfolding(crate::specs::GuestStart::searched, crate::specs::GuestStart::searched_unmet))]
     fn search<K: Peeks>(
         &self,
         kernel: &mut K,
@@ -57,6 +59,8 @@ impl<'a> Launcher<'a> {
         ensures path { let texts = texts_by walker.old.table (K.peeked kernel.old) self.now.tags.now in
             IfOk result (λ path. path ≡ searched texts self.now.working.now word.now (map (λ dir. dir.now) dirs.now)) }
         ensures walker { WalksOn (K.peeked kernel.old) walker.old walker.new }
+        ensures noted { let texts = texts_by walker.old.table (K.peeked kernel.old) self.now.tags.now in
+            OnOk result (K.unmet kernel.new ≡ searched_unmet texts self.now.working.now word.now (map (λ dir. dir.now) dirs.now) (K.unmet kernel.old)) }
         ensures kernel { OnlyPeeks K.peeked K.kept kernel.old kernel.new }
     {
         let Some((dir, others)) = dirs.split_first() else {
@@ -82,6 +86,8 @@ impl<'a> Launcher<'a> {
         ensures path { let texts = texts_by walker.old.table (K.peeked kernel.old) self.now.tags.now in
             IfOk result (λ path. path ≡ chosen texts self.now.working.now env.now word.now) }
         ensures walker { WalksOn (K.peeked kernel.old) walker.old walker.new }
+        ensures noted { let texts = texts_by walker.old.table (K.peeked kernel.old) self.now.tags.now in
+            OnOk result (K.unmet kernel.new ≡ chosen_unmet texts self.now.working.now env.now word.now (K.unmet kernel.old)) }
         ensures kernel { OnlyPeeks K.peeked K.kept kernel.old kernel.new }
     {
         if has_slash(word) {

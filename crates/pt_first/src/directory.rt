@@ -1,9 +1,9 @@
 //! The first working directory.
-ghost use Rattle.std.specs.Prelude.{◌≡◌, IfOk};
+ghost use Rattle.std.specs.Prelude.{◌≡◌, IfOk, OnOk};
 ghost use Rattle.kr_first.specs.pt_bind.Binding.{IsWritten};
-ghost use Rattle.pt_script.specs.pt_canon.Canon.{IsAnswer, texts_by};
-ghost use Rattle.pt_script.specs.Programs.{canon_from};
-ghost use Rattle.pt_first.specs.GuestStart.{directory_at, working_directory};
+ghost use Rattle.pt_script.specs.pt_canon.Canon.{IsAnswer, IsWalkNoted, texts_by};
+ghost use Rattle.pt_script.specs.Programs.{canon_from, canon_unmet};
+ghost use Rattle.pt_first.specs.GuestStart.{directory_at, directory_unmet, working_directory, working_unmet};
 ghost use Rattle.pt_script.specs.pt_canon.Leaving.{OnlyPeeks};
 ghost use Rattle.pt_script.specs.pt_canon.Remembering.{Agrees, WalksOn};
 
@@ -27,6 +27,7 @@ pub(crate) fn canon_from<K: Peeks>(
     ensures answer { IsAnswer (canon_from (texts_by walker.old.table (K.peeked kernel.old) tags.now) path.now base.now) result }
     ensures written { IfOk result (λ canon. IsWritten canon.guest) }
     ensures walker { WalksOn (K.peeked kernel.old) walker.old walker.new }
+    ensures noted { IsWalkNoted (canon_unmet (texts_by walker.old.table (K.peeked kernel.old) tags.now) path.now base.now (K.unmet kernel.old)) (K.unmet kernel.new) result }
     ensures kernel { OnlyPeeks K.peeked K.kept kernel.old kernel.new }
 {
     walker.canon(kernel, tags, base, path, WalkMode::Look)
@@ -43,6 +44,7 @@ fn directory_at<K: Peeks>(
     ensures answer { IsAnswer (directory_at (texts_by walker.old.table (K.peeked kernel.old) tags.now) path.now) result }
     ensures written { IfOk result (λ canon. IsWritten canon.guest) }
     ensures walker { WalksOn (K.peeked kernel.old) walker.old walker.new }
+    ensures noted { IsWalkNoted (directory_unmet (texts_by walker.old.table (K.peeked kernel.old) tags.now) path.now (K.unmet kernel.old)) (K.unmet kernel.new) result }
     ensures kernel { OnlyPeeks K.peeked K.kept kernel.old kernel.new }
 {
     let found = canon_from(kernel, walker, tags, path, ROOT)?;
@@ -62,6 +64,7 @@ pub(crate) fn working_directory<K: Peeks>(
     ensures text { IfOk result (λ text. text ≡ working_directory (texts_by walker.old.table (K.peeked kernel.old) tags.now) path.now) }
     ensures written { IfOk result IsWritten }
     ensures walker { WalksOn (K.peeked kernel.old) walker.old walker.new }
+    ensures noted { OnOk result (K.unmet kernel.new ≡ working_unmet (texts_by walker.old.table (K.peeked kernel.old) tags.now) path.now (K.unmet kernel.old)) }
     ensures kernel { OnlyPeeks K.peeked K.kept kernel.old kernel.new }
 {
     if !is_walked(path) {

@@ -1,7 +1,7 @@
 //! What a tracer is told before a process lives.
-ghost use Rattle.std.specs.Prelude.{◌≡◌, ℕ, take, IfOk};
+ghost use Rattle.std.specs.Prelude.{◌≡◌, ℕ, ◌&&◌, not, take, true, IfOk};
 ghost use Rattle.std.specs.Option.{option_map};
-ghost use Rattle.pr_words.specs.pr_base.Peeks.{IsPeeked};
+ghost use Rattle.pr_words.specs.pr_base.Peeks.{IsNoted, IsPeeked};
 ghost use Rattle.pr_words.specs.pr_base.declared.path.WalkMode.TheVariants.{LookLink};
 ghost use Rattle.kr_first.specs.kr_tree.declared.place.Host.TheVariants.{Node};
 ghost use Rattle.kr_first.specs.kr_view.Answers.{IsAnswer, IsReached};
@@ -10,7 +10,7 @@ ghost use Rattle.kr_first.specs.kr_view.View.{plain};
 ghost use Rattle.kr_first.specs.kr_view.declared.view.HostMount.{HostMount};
 ghost use Rattle.kr_first.specs.Starting.{around};
 ghost use Rattle.kr_first.specs.kr_model.Peeks.{head_at};
-ghost use Rattle.kr_hostview.specs.NoJumps.{no-jump-along};
+ghost use Rattle.kr_hostview.specs.NoJumps.{fronts-along, no-jump-along};
 ghost use Rattle.kr_hostview.specs.OnHost.{number};
 ghost use Rattle.kr_hostview.specs.Peeking.{IsFound};
 ghost use Rattle.pt_first.specs.FirstPeeks.{answer_along, first_peeked, host_walk, is_steady_path, kind_at, link_text_at};
@@ -29,6 +29,7 @@ const FIRST: u32 = 2;
 #[derive(Drop)]
 pub struct FirstPeeks<'a> {
     looker: Looker<'a>,
+    unmet: bool,
 }
 
 impl<'a> Model for FirstPeeks<'a> {
@@ -40,40 +41,52 @@ impl<'a> Model for FirstPeeks<'a> {
 
     ghost coded = { Prim.hlevel (codes, tree_code) };
 
-    ghost view = { λ p. record { tree = p.looker.tree.now; user = p.looker.user } };
+    ghost view = { λ p. record { tree = p.looker.tree.now; user = p.looker.user; unmet = p.unmet } };
 }
 
 impl<'a> FirstPeeks<'a> {
+    /// Nothing was asked yet.
     pub fn new(alloc: Global, tree: &'a Tree, user: User) -> FirstPeeks<'a>
         ensures tree { result.tree ≡ tree.now }
         ensures user { result.user ≡ user }
+        ensures unmet { result.unmet ≡ true }
     {
         FirstPeeks {
             looker: Looker { alloc, tree, user },
+            unmet: true,
         }
+    }
+
+    /// Whether no peek looked up a name in the process directory so far.
+    pub fn unmet(&self) -> bool
+        ensures { result ≡ self.now.unmet }
+    {
+        self.unmet
     }
 }
 
 impl<'a> Peeks for FirstPeeks<'a> {
     ghost use Rattle.std.specs.Prelude.{refl};
-    ghost use Rattle.pt_first.specs.FirstPeeks.{Asked, first_peeked};
+    ghost use Rattle.pt_first.specs.FirstPeeks.{Left, first_peeked};
 
     ghost peeked = { λ p. first_peeked p.tree p.user };
 
-    ghost Kept = { Asked };
+    ghost Kept = { Left };
 
-    ghost kept = { λ p. p };
+    ghost kept = { λ p. record { tree = p.tree; user = p.user } };
+
+    ghost unmet = { λ p. p.unmet };
 
     fn kind(&mut self, host: &[u8]) -> Result<PeekKind, PeekFault> {
-        self.looker.kind(host)
+        self.looker.kind(host, &mut self.unmet)
     }
 
     fn link_text(&mut self, host: &[u8]) -> Result<Bytes, PeekFault> {
-        self.looker.link_text(host)
+        self.looker.link_text(host, &mut self.unmet)
     }
 
     fn head(&mut self, host: &[u8], n: u32) -> Result<Bytes, PeekFault> {
-        self.looker.head(host, n)
+        self.looker.head(host, n, &mut self.unmet)
     }
 
     fn steady(&mut self, host: &[u8]) -> Result<bool, NoMemory> {
@@ -99,6 +112,8 @@ impl<'a> Peeks for FirstPeeks<'a> {
     ghost names_are_texts = { λ p. record { base = λ pid fd. tt; cwd = λ pid. tt; exe = λ pid. tt } };
 
     ghost steady_is_no_jump = { λ p. no-jump-along (around plain p.tree p.user) };
+
+    ghost fronts_are_steady = { λ p. fronts-along (around plain p.tree p.user) };
 }
 
 /// A tree before a process lives, in the name of a user.
@@ -110,31 +125,35 @@ struct Looker<'a> {
 }
 
 impl<'a> Looker<'a> {
-    /// The kind of what a host path leads to. It fails as the walk there does.
-    fn kind(&self, host: &[u8]) -> Result<PeekKind, PeekFault>
-        ensures { IsPeeked ((first_peeked self.now.tree.now self.now.user).kind host.now) result }
+    /// The kind of what a host path leads to. It fails as the walk there does. In `unmet` it is noted where the walk looks up a name in the
+    /// process directory, as in the next two.
+    fn kind(&self, host: &[u8], unmet: &mut bool) -> Result<PeekKind, PeekFault>
+        ensures noted { IsNoted (unmet.old && is_steady_path self.now.tree.now self.now.user host.now) unmet.new result }
+        ensures answer { IsPeeked ((first_peeked self.now.tree.now self.now.user).kind host.now) result }
     {
-        match self.find(host)? {
+        match self.find(host, unmet)? {
             Some(object) => kind_of(self.tree, object),
             None => Err(PeekFault::Err(Errno::ENOENT)),
         }
     }
 
     /// The text of the link to which a host path leads.
-    fn link_text(&self, host: &[u8]) -> Result<Bytes, PeekFault>
-        ensures { IsPeeked ((first_peeked self.now.tree.now self.now.user).link_text host.now) result }
+    fn link_text(&self, host: &[u8], unmet: &mut bool) -> Result<Bytes, PeekFault>
+        ensures noted { IsNoted (unmet.old && is_steady_path self.now.tree.now self.now.user host.now) unmet.new result }
+        ensures answer { IsPeeked ((first_peeked self.now.tree.now self.now.user).link_text host.now) result }
     {
-        match self.find(host)? {
+        match self.find(host, unmet)? {
             Some(object) => self.text_of(object),
             None => Err(PeekFault::Err(Errno::ENOENT)),
         }
     }
 
     /// The first bytes of the file to which a host path leads.
-    fn head(&self, host: &[u8], n: u32) -> Result<Bytes, PeekFault>
-        ensures { IsPeeked ((first_peeked self.now.tree.now self.now.user).head host.now n) result }
+    fn head(&self, host: &[u8], n: u32, unmet: &mut bool) -> Result<Bytes, PeekFault>
+        ensures noted { IsNoted (unmet.old && is_steady_path self.now.tree.now self.now.user host.now) unmet.new result }
+        ensures answer { IsPeeked ((first_peeked self.now.tree.now self.now.user).head host.now n) result }
     {
-        match self.find(host)? {
+        match self.find(host, unmet)? {
             Some(object) => self.head_of(object, n),
             None => Err(PeekFault::Err(Errno::ENOENT)),
         }
@@ -153,13 +172,21 @@ impl<'a> Looker<'a> {
     }
 
     /// What a host path leads to, where a last link isn't followed.
-    fn find(&self, host: &[u8]) -> Result<Option<Host>, PeekFault>
-        ensures { IsFound (answer_along self.now.tree.now self.now.user host.now) result }
+    fn find(&self, host: &[u8], unmet: &mut bool) -> Result<Option<Host>, PeekFault>
+        ensures found { IsFound (answer_along self.now.tree.now self.now.user host.now) result }
+        ensures noted { IsNoted (unmet.old && is_steady_path self.now.tree.now self.now.user host.now) unmet.new result }
     {
         let mut reach = nowhere();
         match self.walked(host, &mut reach) {
-            Ok(target) => Ok(found_in(target)),
-            Err(fault) => Err(fault_of(fault)),
+            Ok(target) => {
+                *unmet = unmet_behind(*unmet, reach);
+                Ok(found_in(target))
+            }
+            Err(WalkFault::Err(errno)) => {
+                *unmet = unmet_behind(*unmet, reach);
+                Err(PeekFault::Err(errno))
+            }
+            Err(WalkFault::NoMemory) => Err(PeekFault::NoMemory),
         }
     }
 
@@ -226,6 +253,13 @@ impl<'a> Looker<'a> {
     }
 }
 
+/// Whether the process directory is unmet still, behind a walk that reached so much.
+fn unmet_behind(unmet: bool, reach: Reach) -> bool
+    ensures { result ≡ (unmet && not reach.met_proc) }
+{
+    unmet && !reach.met_proc
+}
+
 /// The object that a walk found.
 fn found_in(target: Target<HostMount>) -> Option<Host>
     ensures { result ≡ option_map (λ p. p.host) target.found }
@@ -243,16 +277,6 @@ fn nowhere() -> Reach
     Reach {
         longest: 0,
         met_proc: false,
-    }
-}
-
-/// Why a walk gives no target, as a tracer is told it.
-fn fault_of(fault: WalkFault) -> PeekFault
-    ensures { (answer : _) → IsAnswer {M = HostMount} number answer (Err fault) → IsFound answer (Err result) }
-{
-    match fault {
-        WalkFault::Err(errno) => PeekFault::Err(errno),
-        WalkFault::NoMemory => PeekFault::NoMemory,
     }
 }
 

@@ -1,11 +1,11 @@
 //! The program that runs in the end.
 ghost use Rattle.std.specs.Prelude.{◌≡◌, ◌≤◌, ◌<◌, length, false, true, IfOk, MatchOption};
 ghost use Rattle.kr_first.specs.pt_bind.Binding.{IsWritten};
-ghost use Rattle.pt_script.specs.pt_canon.Canon.{IsAnswer, texts_by};
+ghost use Rattle.pt_script.specs.pt_canon.Canon.{IsAnswer, IsWalkNoted, texts_by};
 ghost use Rattle.pt_script.specs.kr_calls.Expansion.{bytes_with_ends};
 ghost use Rattle.kr_first.specs.kr_exec.Exec.{are_too_big};
 ghost use Rattle.kr_first.specs.Starting.{path_errno};
-ghost use Rattle.pt_first.specs.GuestStart.{base_of, handed, if_short, run_from, run_with};
+ghost use Rattle.pt_first.specs.GuestStart.{base_of, handed, handed_unmet, if_short, run_from, run_unmet, run_with, unmet_with_lists};
 ghost use Rattle.pt_script.specs.pt_canon.Leaving.{OnlyPeeks};
 ghost use Rattle.pt_script.specs.pt_canon.Remembering.{Agrees, WalksOn};
 
@@ -76,6 +76,8 @@ impl<'a> Launcher<'a> {
         ensures answer { let texts = texts_by walker.old.table (K.peeked kernel.old) self.now.tags.now in
             IsAnswer (run_from texts self.now.working.now args env.now path.now) result }
         ensures walker { WalksOn (K.peeked kernel.old) walker.old walker.new }
+        ensures noted { let texts = texts_by walker.old.table (K.peeked kernel.old) self.now.tags.now in
+            IsWalkNoted (run_unmet texts self.now.working.now args env.now path.now (K.unmet kernel.old)) (K.unmet kernel.new) result }
         ensures kernel { OnlyPeeks K.peeked K.kept kernel.old kernel.new }
     {
         if !is_walked(path) {
@@ -97,6 +99,8 @@ impl<'a> Launcher<'a> {
         ensures answer { let texts = texts_by walker.old.table (K.peeked kernel.old) self.now.tags.now in
             IsAnswer (handed texts self.now.working.now path.now) result }
         ensures walker { WalksOn (K.peeked kernel.old) walker.old walker.new }
+        ensures noted { let texts = texts_by walker.old.table (K.peeked kernel.old) self.now.tags.now in
+            IsWalkNoted (handed_unmet texts self.now.working.now path.now (K.unmet kernel.old)) (K.unmet kernel.new) result }
         ensures kernel { OnlyPeeks K.peeked K.kept kernel.old kernel.new }
     {
         let base = base_of(self.working, path);
@@ -121,6 +125,8 @@ impl<'a> Launcher<'a> {
         ensures answer { let texts = texts_by walker.old.table (K.peeked kernel.old) self.now.tags.now in
             IsAnswer (run_with texts self.now.working.now args env.now path.now) result }
         ensures walker { WalksOn (K.peeked kernel.old) walker.old walker.new }
+        ensures noted { let texts = texts_by walker.old.table (K.peeked kernel.old) self.now.tags.now in
+            IsWalkNoted (unmet_with_lists texts self.now.working.now args env.now path.now (K.unmet kernel.old)) (K.unmet kernel.new) result }
         ensures kernel { OnlyPeeks K.peeked K.kept kernel.old kernel.new }
     {
         let working = Some(self.working);

@@ -1,9 +1,9 @@
 //! The start.
-ghost use Rattle.std.specs.Prelude.{◌≡◌, IfOk, OnErr, OnOk};
+ghost use Rattle.std.specs.Prelude.{◌≡◌, not, true, IfOk, OnErr, OnOk};
 ghost use Rattle.kr_first.specs.pt_bind.Binding.{IsWritten, rows_of};
-ghost use Rattle.pt_script.specs.pt_canon.Canon.{IsAnswer, texts_by};
+ghost use Rattle.pt_script.specs.pt_canon.Canon.{IsAnswer, IsWalkNoted, texts_by};
 ghost use Rattle.pt_first.specs.FirstPeeks.{first_peeked};
-ghost use Rattle.pt_first.specs.GuestStart.{IsBegun, begun, guest_start, tagged};
+ghost use Rattle.pt_first.specs.GuestStart.{IsBegun, IsBegunNoting, IsStartNoted, begun, guest_start, noting, start_unmet, tagged};
 ghost use Rattle.pt_script.specs.pt_canon.Leaving.{OnlyPeeks};
 ghost use Rattle.pt_script.specs.pt_canon.Remembering.{Agrees, WalksOn};
 
@@ -43,6 +43,7 @@ pub fn first_by<K: Peeks>(
     requires agrees { Agrees walker.old (K.peeked kernel.old) }
     ensures begins { IsBegun (guest_start (texts_by walker.old.table (K.peeked kernel.old) tags.old) launch) tags.old tags.new result }
     ensures walker { WalksOn (K.peeked kernel.old) walker.old walker.new }
+    ensures noted { IsStartNoted (start_unmet (texts_by walker.old.table (K.peeked kernel.old) tags.old) launch (K.unmet kernel.old)) (K.unmet kernel.new) result }
     ensures kernel { OnlyPeeks K.peeked K.kept kernel.old kernel.new }
 {
     match begin(alloc, kernel, walker, tags, launch) {
@@ -56,7 +57,8 @@ pub fn first_by<K: Peeks>(
 }
 
 /// The first process of a launch over a tree in which no process lives, in the name of a user, and its tags. The errors are those of
-/// `first_by`, and where none begins no tag is set. So is what is asked of the walker, and what is left of it.
+/// `first_by`, and where none begins no tag is set. So is what is asked of the walker, and what is left of it. What the process is handed as
+/// reached tells whether a walk looked up a name in the process directory.
 pub fn first(
     alloc: Global,
     walker: &mut Walker,
@@ -66,11 +68,38 @@ pub fn first(
     launch: Launch,
 ) -> Result<First, StartFault>
     requires agrees { Agrees walker.old (first_peeked tree.now user) }
-    ensures begins { IsBegun (guest_start (texts_by walker.old.table (first_peeked tree.now user) tags.old) launch) tags.old tags.new result }
+    ensures begins { let texts = texts_by walker.old.table (first_peeked tree.now user) tags.old in
+        IsBegunNoting (not (start_unmet texts launch true)) (guest_start texts launch) tags.old tags.new result }
     ensures walker { WalksOn (first_peeked tree.now user) walker.old walker.new }
 {
     let mut kernel = FirstPeeks::new(alloc, tree, user);
-    first_by(alloc, &mut kernel, walker, tags, launch)
+    let first = first_by(alloc, &mut kernel, walker, tags, launch)?;
+    Ok(noting(!kernel.unmet(), first))
+}
+
+/// The first process, with whether the walks that found it met the process directory.
+fn noting(met_proc: bool, first: First) -> First
+    ensures { result ≡ noting met_proc first }
+{
+    let First {
+        path,
+        args,
+        env,
+        cwd,
+        ids,
+        reach,
+    } = first;
+    First {
+        path,
+        args,
+        env,
+        cwd,
+        ids,
+        reach: Reach {
+            longest: reach.longest,
+            met_proc,
+        },
+    }
 }
 
 /// Sets the tags of the first process. Where memory is wanting nothing changes.
@@ -92,6 +121,7 @@ fn begin<K: Peeks>(
     requires agrees { Agrees walker.old (K.peeked kernel.old) }
     ensures answer { IsAnswer (guest_start (texts_by walker.old.table (K.peeked kernel.old) tags.now) launch) result }
     ensures walker { WalksOn (K.peeked kernel.old) walker.old walker.new }
+    ensures noted { IsWalkNoted (start_unmet (texts_by walker.old.table (K.peeked kernel.old) tags.now) launch (K.unmet kernel.old)) (K.unmet kernel.new) result }
     ensures kernel { OnlyPeeks K.peeked K.kept kernel.old kernel.new }
 {
     let Launch {

@@ -4,4 +4,5 @@ pub use Rattle.pt_args.proofs.kr_calls as kr_calls
 pub use Rattle.pt_args.proofs.pt_canon as pt_canon
 mod AnswerRows
 mod LeadLemmas
+pub mod UnmetLemmas
 pub mod NoteLemmas

@@ -1,7 +1,6 @@
 -- What a tracer answers in guest terms in place of the plain kernel: getcwd(2), and readlinkat(2) of a link of the process
 -- directory other than `self`, as proc(5) has them.
-use Rattle.std.specs.Prelude.{ℕ, ◌+◌, nat_lt, false, List, [], ◌∷◌, length, take, pos, Option, Some, None, Result, Ok, Err, if◌then◌else◌}
-use Rattle.std.specs.Prelude.{min}
+use Rattle.std.specs.Prelude.{ℕ, ◌+◌, ◌&&◌, Bool, nat_lt, false, List, [], ◌∷◌, length, take, pos, Option, Some, None, Result, Ok, Err, if◌then◌else◌, min}
 use Rattle.pt_args.specs.pr_base.Paths.{is_absolute}
 use Rattle.pt_args.specs.pr_base.Texts.{Text}
 use Rattle.pt_args.specs.pr_base.declared.errno.Errno.{Errno}
@@ -18,7 +17,7 @@ use Rattle.pt_args.specs.kr_calls.declared.request.Request.{Request}
 use Rattle.pt_args.specs.kr_calls.declared.request.Request.TheVariants as call
 use Rattle.pt_args.specs.Bases.{working_text}
 use Rattle.pt_args.specs.Shelving.{with_zero}
-use Rattle.pt_args.specs.Walks.{walked}
+use Rattle.pt_args.specs.Walks.{walked, walked_unmet}
 use Rattle.pt_args.specs.declared.edit.Edit.{Edit}
 use Rattle.pt_args.specs.declared.edit.Edit.TheVariants.{Cancel, Emulate}
 use Rattle.pt_args.specs.declared.reached.Reached.{Reached}
@@ -84,3 +83,22 @@ abbrev pub link_answer : TextSurroundings → ℕ → Request → Option Edit
 link_answer texts pid (call.Readlinkat dirfd path buf size) =
     path_answer texts pid (record { buf = buf; count = count_of size }) (path_at (call.Readlinkat dirfd path buf size) 0)
 link_answer texts pid _ = None
+
+-- ---- whether the process directory is unmet still, by whether it was before
+
+-- of what stands at the end of the path nothing more is asked, but of a link that is found by a name there
+abbrev pub read_unmet : TextSurroundings → Canon → Bool → Bool
+read_unmet texts canon unmet = unmet && texts.peeked.steady canon.host
+
+abbrev pub unmet_behind_walk : TextSurroundings → Result (Option Reached) Errno → Bool → Bool
+unmet_behind_walk texts (Ok (Some reached)) unmet = read_unmet texts reached.canon unmet
+unmet_behind_walk texts (Ok None) unmet = unmet
+unmet_behind_walk texts (Err e) unmet = unmet
+
+abbrev pub unmet_on_path : TextSurroundings → ℕ → Option PathUse → Bool → Bool
+unmet_on_path texts pid (Some u) unmet = unmet_behind_walk texts (walked texts pid false u) (walked_unmet texts pid u unmet)
+unmet_on_path texts pid None unmet = unmet
+
+abbrev pub link_unmet : TextSurroundings → ℕ → Request → Bool → Bool
+link_unmet texts pid (call.Readlinkat dirfd path buf size) unmet = unmet_on_path texts pid (path_at (call.Readlinkat dirfd path buf size) 0) unmet
+link_unmet texts pid _ unmet = unmet

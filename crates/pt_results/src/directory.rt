@@ -23,6 +23,7 @@ pub fn cwd_answer<K: Peeks>(
     buf: u64,
 ) -> Result<Edit, NoMemory>
     ensures answer { IfOk result (λ edit. edit ≡ cwd_answer (texts_by walker.now.table (K.peeked kernel.old) tags.now) pid size buf) }
+    ensures unmet { K.unmet kernel.new ≡ K.unmet kernel.old }
     ensures kernel { OnlyPeeks K.peeked K.kept kernel.old kernel.new }
 {
     match working_text(kernel, walker.table(), tags, pid)? {

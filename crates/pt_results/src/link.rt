@@ -1,9 +1,9 @@
 //! The answer of readlinkat(2) for a link of the process directory.
-ghost use Rattle.std.specs.Prelude.{◌≡◌, IsTrue, IfOk};
+ghost use Rattle.std.specs.Prelude.{◌≡◌, ◌&&◌, false, IsTrue, IfOk, OnOk};
 ghost use Rattle.pt_args.specs.pr_base.Paths.{is_absolute};
 ghost use Rattle.pt_args.specs.pt_bind.Binding.{IsWritten, names_of};
 ghost use Rattle.pt_args.specs.pt_canon.Canon.{texts_by};
-ghost use Rattle.pt_results.specs.Answers.{jump_answer, lead_answer, link_answer, nowhere_answer, read_answer};
+ghost use Rattle.pt_results.specs.Answers.{jump_answer, lead_answer, link_answer, link_unmet, nowhere_answer, read_answer, read_unmet};
 ghost use Rattle.pt_args.specs.pt_canon.Leaving.{OnlyPeeks};
 ghost use Rattle.pt_args.specs.pt_canon.Remembering.{Agrees, WalksOn};
 
@@ -38,6 +38,7 @@ pub fn link_answer<K: Peeks>(
     requires agrees { Agrees walker.old (K.peeked kernel.old) }
     ensures answer { IfOk result (λ edit. edit ≡ link_answer (texts_by walker.old.table (K.peeked kernel.old) tags.now) pid request.now) }
     ensures walker { WalksOn (K.peeked kernel.old) walker.old walker.new }
+    ensures noted { OnOk result (K.unmet kernel.new ≡ link_unmet (texts_by walker.old.table (K.peeked kernel.old) tags.now) pid request.now (K.unmet kernel.old)) }
     ensures kernel { OnlyPeeks K.peeked K.kept kernel.old kernel.new }
 {
     let Request::Readlinkat { buf, size, .. } = request else {
@@ -83,6 +84,8 @@ impl<'a> Reader<'a> {
         ensures answer { let texts = texts_by walker.old.table (K.peeked kernel.old) self.now.tags.now in
             IfOk result (λ edit. edit ≡ read_answer texts canon.now self.now.room) }
         ensures walker { WalksOn (K.peeked kernel.old) walker.old walker.new }
+        ensures noted { let texts = texts_by walker.old.table (K.peeked kernel.old) self.now.tags.now in
+            OnOk result (K.unmet kernel.new ≡ read_unmet texts canon.now (K.unmet kernel.old)) }
         ensures kernel { OnlyPeeks K.peeked K.kept kernel.old kernel.new }
     {
         match kernel.kind(canon.host.as_slice()) {
@@ -107,6 +110,7 @@ impl<'a> Reader<'a> {
         ensures answer { let texts = texts_by walker.old.table (K.peeked kernel.old) self.now.tags.now in
             IfOk result (λ edit. edit ≡ jump_answer texts canon.now self.now.room (names_of canon.now.guest)) }
         ensures walker { WalksOn (K.peeked kernel.old) walker.old walker.new }
+        ensures noted { K.unmet kernel.old ≡ false → OnOk result (K.unmet kernel.new ≡ false) }
         ensures kernel { OnlyPeeks K.peeked K.kept kernel.old kernel.new }
     {
         let Some((dir, name)) = parted(canon.guest.as_slice()) else {
@@ -142,6 +146,7 @@ fn lead_answer(alloc: Global, text: &[u8], room: Room) -> Result<Edit, NoMemory>
 fn nowhere_answer<K: Peeks>(kernel: &mut K, host: &[u8]) -> Result<Option<Edit>, NoMemory>
     requires { IsTrue (is_absolute host.now) }
     ensures answer { IfOk result (λ edit. edit ≡ nowhere_answer ((K.peeked kernel.old).link_text host.now)) }
+    ensures noted { OnOk result (K.unmet kernel.new ≡ (K.unmet kernel.old && (K.peeked kernel.old).steady host.now)) }
     ensures kernel { OnlyPeeks K.peeked K.kept kernel.old kernel.new }
 {
     match kernel.link_text(host) {

@@ -4,3 +4,4 @@ mod GuestTextLemmas
 mod ListLemmas
 mod ProgramRows
 pub mod RunLemmas
+mod UnmetLemmas

@@ -1,5 +1,5 @@
 -- Programs as a tracer finds them: their guest texts by its walk, and their first bytes by peeks at the host texts of these.
-use Rattle.std.specs.Prelude.{ℕ, List, [], ◌∷◌, take, Option, Some, None, Result, Ok, Err, if◌then◌else◌}
+use Rattle.std.specs.Prelude.{ℕ, ◌&&◌, Bool, List, [], ◌∷◌, take, Option, Some, None, Result, Ok, Err, if◌then◌else◌}
 use Rattle.pt_args.specs.pr_base.Paths.{slash, is_absolute}
 use Rattle.pt_args.specs.pr_base.Peeks.{Peeked}
 use Rattle.pt_args.specs.pr_base.declared.errno.Errno.{Errno}
@@ -7,6 +7,7 @@ use Rattle.pt_args.specs.pr_base.declared.errno.Errno.TheVariants.{ENOENT}
 use Rattle.pt_args.specs.pr_base.declared.path.WalkMode.TheVariants.{Look}
 use Rattle.pt_args.specs.pt_bind.Binding.{names_of}
 use Rattle.pt_args.specs.pt_canon.Canon.{canon_of}
+use Rattle.pt_args.specs.pt_canon.LookedPaths.{is_steady_walk}
 use Rattle.pt_args.specs.pt_canon.TextWalk.{TextSurroundings}
 use Rattle.pt_args.specs.pt_canon.declared.canon.Canon.{Canon}
 use Rattle.pt_args.specs.kr_calls.Expansion.{Finding}
@@ -41,3 +42,20 @@ program_from texts working path =
 -- programs by their guest paths. An interpreter is found as the program of a call is
 abbrev pub programs : TextSurroundings → Option (List ℕ) → Finding Program
 programs texts working = record { find = program_from texts working; head = λ program. program.head }
+
+-- ---- whether the process directory is unmet still, by whether it was before
+
+abbrev pub canon_unmet : TextSurroundings → (path base : List ℕ) → Bool → Bool
+canon_unmet texts path base unmet = unmet && is_steady_walk texts Look (names_of base) path
+
+-- what stands at the end of the path is asked for
+abbrev pub unmet_at_canon : TextSurroundings → Result Canon Errno → Bool → Bool
+unmet_at_canon texts (Ok canon) unmet = unmet && texts.peeked.steady canon.host
+unmet_at_canon texts (Err e) unmet = unmet
+
+abbrev pub unmet_from_base : TextSurroundings → List ℕ → Result (List ℕ) Errno → Bool → Bool
+unmet_from_base texts path (Ok base) unmet = unmet_at_canon texts (canon_from texts path base) (canon_unmet texts path base unmet)
+unmet_from_base texts path (Err e) unmet = unmet
+
+abbrev pub program_unmet : TextSurroundings → Option (List ℕ) → List ℕ → Bool → Bool
+program_unmet texts working path unmet = unmet_from_base texts path (base_from working path) unmet

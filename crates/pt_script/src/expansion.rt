@@ -2,10 +2,10 @@
 ghost use Rattle.std.specs.Prelude.{◌≡◌, ◌≤◌, length, IfOk, IfSome};
 ghost use Rattle.std.specs.Option.{option_copied};
 ghost use Rattle.pt_args.specs.pt_bind.Binding.{IsWritten};
-ghost use Rattle.pt_args.specs.pt_canon.Canon.{IsAnswer, texts_by};
+ghost use Rattle.pt_args.specs.pt_canon.Canon.{IsAnswer, IsWalkNoted, texts_by};
 ghost use Rattle.pt_args.specs.kr_calls.Expansion.{most_scripts};
 ghost use Rattle.pt_args.specs.kr_calls.Scripts.{BeginsScript};
-ghost use Rattle.pt_script.specs.Expanding.{ends_of, expanded_at, expanded_from, interpreted, shown_result};
+ghost use Rattle.pt_script.specs.Expanding.{ends_of, ends_unmet, expanded_at, expanded_from, expanded_unmet, interpreted, interpreted_unmet, shown_result, unmet_from};
 ghost use Rattle.pt_args.specs.pt_canon.Leaving.{OnlyPeeks};
 ghost use Rattle.pt_args.specs.pt_canon.Remembering.{Agrees, WalksOn};
 
@@ -56,6 +56,7 @@ pub fn expand<K: Peeks>(
     requires agrees { Agrees walker.old (K.peeked kernel.old) }
     ensures answer { IsAnswer (expanded_at (texts_by walker.old.table (K.peeked kernel.old) tags.now) pid env_bytes path.now args) result }
     ensures walker { WalksOn (K.peeked kernel.old) walker.old walker.new }
+    ensures noted { IsWalkNoted (expanded_unmet (texts_by walker.old.table (K.peeked kernel.old) tags.now) pid env_bytes path.now args (K.unmet kernel.old)) (K.unmet kernel.new) result }
     ensures kernel { OnlyPeeks K.peeked K.kept kernel.old kernel.new }
 {
     let working = working_text(kernel, walker.table(), tags, pid)?;
@@ -93,6 +94,8 @@ impl<'t, 'w> Finder<'t, 'w> {
         ensures answer { let texts = texts_by walker.old.table (K.peeked kernel.old) self.now.tags.now in
             IsAnswer (expanded_from texts (option_copied self.now.working) env_bytes path.now args) result }
         ensures walker { WalksOn (K.peeked kernel.old) walker.old walker.new }
+        ensures noted { let texts = texts_by walker.old.table (K.peeked kernel.old) self.now.tags.now in
+            IsWalkNoted (unmet_from texts (option_copied self.now.working) env_bytes path.now args (K.unmet kernel.old)) (K.unmet kernel.new) result }
         ensures kernel { OnlyPeeks K.peeked K.kept kernel.old kernel.new }
     {
         let program = self.program_from(kernel, walker, path)?;
@@ -119,6 +122,8 @@ impl<'t, 'w> Finder<'t, 'w> {
         ensures answer { let texts = texts_by walker.old.table (K.peeked kernel.old) self.now.tags.now in
             IsAnswer (shown_result (ends_of texts (option_copied self.now.working) env_bytes most_scripts command)) result }
         ensures walker { WalksOn (K.peeked kernel.old) walker.old walker.new }
+        ensures noted { let texts = texts_by walker.old.table (K.peeked kernel.old) self.now.tags.now in
+            IsWalkNoted (ends_unmet texts (option_copied self.now.working) env_bytes most_scripts command (K.unmet kernel.old)) (K.unmet kernel.new) result }
         ensures kernel { OnlyPeeks K.peeked K.kept kernel.old kernel.new }
     {
         let mut command = command;
@@ -151,6 +156,8 @@ impl<'t, 'w> Finder<'t, 'w> {
             IsAnswer (interpreted texts (option_copied self.now.working) env_bytes script) result }
         ensures short { IfOk result (λ next. length next.program.head ≤ 256) }
         ensures walker { WalksOn (K.peeked kernel.old) walker.old walker.new }
+        ensures noted { let texts = texts_by walker.old.table (K.peeked kernel.old) self.now.tags.now in
+            IsWalkNoted (interpreted_unmet texts (option_copied self.now.working) script (K.unmet kernel.old)) (K.unmet kernel.new) result }
         ensures kernel { OnlyPeeks K.peeked K.kept kernel.old kernel.new }
     {
         let Command {

@@ -1,12 +1,12 @@
 //! Programs as a tracer finds them.
-ghost use Rattle.std.specs.Prelude.{◌≡◌, ◌≤◌, take, length, IsTrue, IfOk, IfSome};
+ghost use Rattle.std.specs.Prelude.{◌≡◌, ◌≤◌, ◌&&◌, take, length, IsTrue, IfOk, IfSome};
 ghost use Rattle.std.specs.Option.{option_copied};
 ghost use Rattle.pt_args.specs.pr_base.Paths.{is_absolute};
 ghost use Rattle.pt_args.specs.pt_bind.Binding.{IsWritten, names_of};
-ghost use Rattle.pt_args.specs.pt_canon.Canon.{IsAnswer, canon_of, texts_by};
+ghost use Rattle.pt_args.specs.pt_canon.Canon.{IsAnswer, IsWalkNoted, canon_of, texts_by};
 ghost use Rattle.pt_args.specs.kr_calls.Expansion.{is_script};
 ghost use Rattle.pt_args.specs.kr_calls.Scripts.{BeginsScript};
-ghost use Rattle.pt_script.specs.Programs.{base_from, canon_from, program_from, program_in};
+ghost use Rattle.pt_script.specs.Programs.{base_from, canon_from, canon_unmet, program_from, program_in, program_unmet};
 ghost use Rattle.pt_args.specs.pt_canon.Leaving.{OnlyPeeks};
 ghost use Rattle.pt_args.specs.pt_canon.Remembering.{Agrees, WalksOn};
 
@@ -48,6 +48,8 @@ impl<'t, 'w> Finder<'t, 'w> {
             IsAnswer (program_from texts (option_copied self.now.working) path.now) result }
         ensures short { IfOk result (λ program. length program.head ≤ 256) }
         ensures walker { WalksOn (K.peeked kernel.old) walker.old walker.new }
+        ensures noted { let texts = texts_by walker.old.table (K.peeked kernel.old) self.now.tags.now in
+            IsWalkNoted (program_unmet texts (option_copied self.now.working) path.now (K.unmet kernel.old)) (K.unmet kernel.new) result }
         ensures kernel { OnlyPeeks K.peeked K.kept kernel.old kernel.new }
     {
         let base = base_from(self.alloc, self.working, path)?;
@@ -69,6 +71,8 @@ impl<'t, 'w> Finder<'t, 'w> {
             IsAnswer (canon_from texts path.now base.now) result }
         ensures host { IfOk result (λ canon. IsTrue (is_absolute canon.host)) }
         ensures walker { WalksOn (K.peeked kernel.old) walker.old walker.new }
+        ensures noted { let texts = texts_by walker.old.table (K.peeked kernel.old) self.now.tags.now in
+            IsWalkNoted (canon_unmet texts path.now base.now (K.unmet kernel.old)) (K.unmet kernel.new) result }
         ensures kernel { OnlyPeeks K.peeked K.kept kernel.old kernel.new }
     {
         answers_are_of_their_texts();
@@ -105,6 +109,7 @@ pub(crate) fn program_in<K: Peeks>(
     requires { IsTrue (is_absolute host) }
     ensures answer { IsAnswer (program_in (K.peeked kernel.old) host index) result }
     ensures short { IfOk result (λ program. length program.head ≤ 256) }
+    ensures noted { IsWalkNoted (K.unmet kernel.old && (K.peeked kernel.old).steady host) (K.unmet kernel.new) result }
     ensures kernel { OnlyPeeks K.peeked K.kept kernel.old kernel.new }
 {
     let head = kernel.head(host.as_slice(), HEAD_SIZE)?;

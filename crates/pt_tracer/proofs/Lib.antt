@@ -13,4 +13,5 @@ mod PlanLemmas
 mod PokeLemmas
 mod ShelfLemmas
 mod TracerLemmas
+mod UnmetLemmas
 mod WatchedLemmas

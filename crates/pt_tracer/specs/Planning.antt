@@ -15,13 +15,14 @@ use Rattle.pt_results.specs.kr_calls.declared.request.Request.TheVariants as cal
 use Rattle.pt_faker.specs.kr_model.Peeks.{peeked_of}
 use Rattle.pt_faker.specs.Stopping.{memory_at, register_at, Stopped, with_memory}
 use Rattle.pt_results.specs.pt_args.Edits.{edit_of}
+use Rattle.pt_results.specs.pt_args.Plans.{plan_unmet}
 use Rattle.pt_results.specs.pt_args.Shelving.{shelf_size}
 use Rattle.pt_results.specs.pt_args.Walks.{walked}
 use Rattle.pt_results.specs.pt_args.declared.edit.Edit.{Edit}
 use Rattle.pt_results.specs.pt_args.declared.edit.Edit.TheVariants.{Cancel, Emulate, Pass, Swap}
 use Rattle.pt_results.specs.pt_args.declared.reached.Reached.{Reached}
-use Rattle.pt_results.specs.Answers.{cwd_answer, link_answer}
-use Rattle.pt_script.specs.Expanding.{expanded_at}
+use Rattle.pt_results.specs.Answers.{cwd_answer, link_answer, link_unmet}
+use Rattle.pt_script.specs.Expanding.{expanded_at, expanded_unmet}
 use Rattle.pt_script.specs.declared.expansion.Expanded.{Expanded}
 use Rattle.pt_faker.specs.Reading.{addresses_behind, lists_at}
 use Rattle.pt_faker.specs.declared.lists.Handed.{Handed}
@@ -114,6 +115,18 @@ module _ (texts : TextSurroundings) (t : Stopped) where
   abbrev pub plan_for : Request → Plan
   plan_for r = record { edit = edit_for r; led = led_of texts t.pid r }
 
+  -- whether the process directory is unmet still, by whether it was before; what isn't answered here is rewritten
+  abbrev pub answered_unmet : Request → Bool → Bool
+  answered_unmet (call.Readlinkat dirfd path buf size) unmet = link_unmet texts t.pid (call.Readlinkat dirfd path buf size) unmet
+  answered_unmet _ unmet = unmet
+
+  abbrev pub unmet_unless : Option Edit → Request → Bool → Bool
+  unmet_unless (Some edit) r unmet = unmet
+  unmet_unless None r unmet = plan_unmet texts t.pid r unmet
+
+  abbrev pub plan_for_unmet : Request → Bool → Bool
+  plan_for_unmet r unmet = unmet_unless (answered r) r (answered_unmet r unmet)
+
 -- ---- execve
 
 -- where its two lists stand
@@ -170,3 +183,23 @@ module _ (bindings : List MountText) (tags : TagTable) where
 
   abbrev pub planned : Stopped → Request → Plan × Stopped
   planned t r = planned_by t r (list_addresses r) (path_at r 0)
+
+  -- ---- whether the process directory is unmet still, by whether it was before
+
+  abbrev pub unmet_behind_lists : List ℕ → Result Handed Errno → Stopped → Bool → Bool
+  unmet_behind_lists path (Ok handed) t unmet = expanded_unmet (texts_now t) t.pid handed.env_bytes path handed.args unmet
+  unmet_behind_lists path (Err errno) t unmet = unmet
+
+  abbrev pub execve_unmet : Stopped → Request → List ℕ → ListAddresses → Bool → Bool
+  execve_unmet t r path lists unmet =
+      let done = carried_out (lists_at lists.args lists.env) (memory_at t) in
+      let walked = plan_unmet (texts_now t) t.pid r unmet in
+      if is_swap (rewritten (texts_now t) t r) then unmet_behind_lists path done.reply (with_memory done.memory t) walked else walked
+
+  abbrev pub unmet_planned : Stopped → Request → Option ListAddresses → Option PathUse → Bool → Bool
+  unmet_planned t r None path unmet = plan_for_unmet (texts_now t) t r unmet
+  unmet_planned t r (Some lists) None unmet = plan_for_unmet (texts_now t) t r unmet
+  unmet_planned t r (Some lists) (Some u) unmet = execve_unmet t r u.text lists unmet
+
+  abbrev pub planned_unmet : Stopped → Request → Bool → Bool
+  planned_unmet t r unmet = unmet_planned t r (list_addresses r) (path_at r 0) unmet

@@ -2,7 +2,7 @@
 -- second one it gives the registers back, tells the answer, and notes the tags of what the call made. With an identity option each
 -- process believes in an identity of its own, too.
 use Rattle.std.specs.FinMap as map
-use Rattle.std.specs.Prelude.{ℕ, ◌&&◌, Bool, true, false, List, ℤ, Option, Some, None, Result, Ok, Err, if◌then◌else◌, is_none}
+use Rattle.std.specs.Prelude.{ℕ, ◌&&◌, not, Bool, true, false, List, ℤ, Option, Some, None, Result, Ok, Err, if◌then◌else◌, is_none}
 use Rattle.std.specs.Int.{cast_signed, w64}
 use Rattle.std.specs.Option.{option_map}
 use Rattle.std.specs.Ordering.{nat_cmp}
@@ -26,7 +26,7 @@ use Rattle.pt_faker.specs.Faking.{due_of, forgiven, has_answered_zero, if_done, 
 use Rattle.pt_faker.specs.declared.due.Due.{Due}
 use Rattle.pt_faker.specs.declared.due.Due.TheVariants as due
 use Rattle.pt_tracer.specs.Answering.{starting_identities}
-use Rattle.pt_tracer.specs.Planning.{nowhere, planned}
+use Rattle.pt_tracer.specs.Planning.{nowhere, planned, planned_unmet}
 use Rattle.pt_tracer.specs.Poking.{may_poke, poked}
 use Rattle.pt_tracer.specs.Registers.{arguments_at, given_back, with_arguments}
 use Rattle.pt_tracer.specs.declared.pending.Pending.{Pending}
@@ -114,6 +114,26 @@ after_decoding x t (Err e) = (without_pending t.pid x, t)
 
 abbrev pub entered : Tracing → Stopped → Tracing × Stopped
 entered x t = after_decoding x (after_request t) (decoded_at t).reply
+
+-- whether the process directory is unmet still, by whether it was before: what is answered here is looked for nowhere
+abbrev pub unmet_unless_here : Tracing → Request → Stopped → Option Effect → Bool → Bool
+unmet_unless_here x r t None unmet = planned_unmet x.bindings x.tags t r unmet
+unmet_unless_here x r t (Some e) unmet = unmet
+
+abbrev pub unmet_by_identities : Tracing → Request → Stopped → Option IdentityTable → Bool → Bool
+unmet_by_identities x r t None unmet = planned_unmet x.bindings x.tags t r unmet
+unmet_by_identities x r t (Some table) unmet = unmet_unless_here x r t (effect (identity_at table t.pid) r) unmet
+
+abbrev pub unmet_behind_decoding : Tracing → Stopped → Result Request Errno → Bool → Bool
+unmet_behind_decoding x t (Ok r) unmet = unmet_by_identities x r t x.identities unmet
+unmet_behind_decoding x t (Err e) unmet = unmet
+
+abbrev pub entry_unmet : Tracing → Stopped → Bool → Bool
+entry_unmet x t unmet = unmet_behind_decoding x (after_request t) (decoded_at t).reply unmet
+
+-- whether it looks up a name in the process directory
+abbrev pub asks : Tracing → Stopped → Bool
+asks x t = not (entry_unmet x t true)
 
 -- ---- the second stop
 

@@ -1,11 +1,11 @@
 //! A walker that remembers nothing as long as a process stands at a call that can alter the tree.
 ghost use Rattle.std.specs.Prelude.{◌≡◌, [], IfOk, OnOk, false};
 ghost use Rattle.law_steady.specs.pt_bind.Binding.{rows_of};
-ghost use Rattle.pt_faker.specs.Stopping.{OnlyEdits};
+ghost use Rattle.pt_faker.specs.Stopping.{OnlyEdits, lent};
 ghost use Rattle.pt_faker.specs.kr_stops.Remembering.{AgreesAt, FreesCaller, KeepsAllFree, KeepsOthersFree, StillAgrees};
 ghost use Rattle.pt_tracer.specs.Agreeing.{AgreesWith, WalksAt};
 ghost use Rattle.pt_tracer.specs.Pausing.{IsPausedFor, is_pausing};
-ghost use Rattle.pt_tracer.specs.Planning.{planned};
+ghost use Rattle.pt_tracer.specs.Planning.{planned, planned_unmet};
 
 use crate::altering::can_alter_shape;
 use crate::plan::Plan;
@@ -56,7 +56,8 @@ impl PausingWalker {
         ensures plan { IfOk result (λ plan. (plan, T.stopped t.new) ≡ planned (rows_of self.old.walker.table) planner.now.tags.now (T.stopped t.old) planner.now.request.now) }
         ensures walks { WalksAt (T.stopped t.old) self.old.walker self.new.walker }
         ensures pids { self.new.pids ≡ self.old.pids }
-        ensures edits { OnlyEdits T.stopped T.around t.old t.new }
+        ensures noted { OnOk result (T.unmet t.new ≡ planned_unmet (rows_of self.old.walker.table) planner.now.tags.now (T.stopped t.old) planner.now.request.now (T.unmet t.old)) }
+        ensures edits { OnlyEdits T.stopped (lent T.around) t.old t.new }
     {
         planner.plan(t, &mut self.walker)
     }

@@ -1,14 +1,15 @@
 //! What a tracer makes of a call that could be read.
-ghost use Rattle.std.specs.Prelude.{◌≡◌, ◌≤◌, IsTrue, IfOk, length};
+ghost use Rattle.std.specs.Prelude.{◌≡◌, ◌≤◌, IsTrue, IfOk, OnOk, length};
 ghost use Rattle.law_steady.specs.pt_bind.Binding.{rows_of};
-ghost use Rattle.pt_results.specs.pt_canon.Canon.{IsAnswer};
+ghost use Rattle.pt_results.specs.pt_canon.Canon.{IsAnswer, IsWalkNoted};
 ghost use Rattle.pt_results.specs.pt_canon.Leaving.{OnlyPeeks};
-ghost use Rattle.pt_script.specs.Expanding.{expanded_at};
-ghost use Rattle.pt_faker.specs.Stopping.{OnlyEdits};
+ghost use Rattle.pt_script.specs.Expanding.{expanded_at, expanded_unmet};
+ghost use Rattle.pt_faker.specs.Stopping.{OnlyEdits, lent};
 ghost use Rattle.pt_results.specs.pt_args.Edits.{first_of};
+ghost use Rattle.pt_results.specs.pt_args.Plans.{plan_unmet};
 ghost use Rattle.pt_faker.specs.kr_stops.Remembering.{AgreesAt};
 ghost use Rattle.pt_tracer.specs.Agreeing.{AgreesWith, WalksAt};
-ghost use Rattle.pt_tracer.specs.Planning.{answered, cancelled, execve_plan, expand_with, has_shelf, is_swap, led_at, led_in, led_reached, led_to, list_addresses, plan_for, planned, rewritten, script_plan, stack_at, texts_at};
+ghost use Rattle.pt_tracer.specs.Planning.{answered, answered_unmet, cancelled, execve_plan, execve_unmet, expand_with, has_shelf, is_swap, led_at, led_in, led_reached, led_to, list_addresses, plan_for, plan_for_unmet, planned, planned_unmet, rewritten, script_plan, stack_at, texts_at};
 
 use crate::plan::{Led, NOWHERE, Plan};
 use crate::script::script_edit;
@@ -48,7 +49,8 @@ impl<'a> Planner<'a> {
         requires agrees { AgreesAt AgreesWith walker.old (T.stopped t.old) }
         ensures plan { IfOk result (λ plan. (plan, T.stopped t.new) ≡ planned (rows_of walker.old.table) self.now.tags.now (T.stopped t.old) self.now.request.now) }
         ensures walker { WalksAt (T.stopped t.old) walker.old walker.new }
-        ensures edits { OnlyEdits T.stopped T.around t.old t.new }
+        ensures noted { OnOk result (T.unmet t.new ≡ planned_unmet (rows_of walker.old.table) self.now.tags.now (T.stopped t.old) self.now.request.now (T.unmet t.old)) }
+        ensures edits { OnlyEdits T.stopped (lent T.around) t.old t.new }
     {
         // For the proof alone: the process lives.
         let _pid = t.pid();
@@ -72,7 +74,8 @@ impl<'a> Planner<'a> {
         requires agrees { AgreesAt AgreesWith walker.old (T.stopped t.old) }
         ensures plan { IfOk result (λ plan. plan ≡ plan_for (texts_at (rows_of walker.old.table) self.now.tags.now (T.stopped t.old)) (T.stopped t.old) self.now.request.now) }
         ensures walker { WalksAt (T.stopped t.old) walker.old walker.new }
-        ensures process { OnlyPeeks T.stopped T.around t.old t.new }
+        ensures noted { OnOk result (T.unmet t.new ≡ plan_for_unmet (texts_at (rows_of walker.old.table) self.now.tags.now (T.stopped t.old)) (T.stopped t.old) self.now.request.now (T.unmet t.old)) }
+        ensures process { OnlyPeeks T.stopped (lent T.around) t.old t.new }
     {
         if let Some(edit) = self.answered(t, walker)? {
             return Ok(Plan { edit, led: NOWHERE });
@@ -87,7 +90,8 @@ impl<'a> Planner<'a> {
         requires agrees { AgreesAt AgreesWith walker.old (T.stopped t.old) }
         ensures edit { IfOk result (λ edit. edit ≡ answered (texts_at (rows_of walker.old.table) self.now.tags.now (T.stopped t.old)) (T.stopped t.old) self.now.request.now) }
         ensures walker { WalksAt (T.stopped t.old) walker.old walker.new }
-        ensures process { OnlyPeeks T.stopped T.around t.old t.new }
+        ensures noted { OnOk result (T.unmet t.new ≡ answered_unmet (texts_at (rows_of walker.old.table) self.now.tags.now (T.stopped t.old)) (T.stopped t.old) self.now.request.now (T.unmet t.old)) }
+        ensures process { OnlyPeeks T.stopped (lent T.around) t.old t.new }
     {
         let pid = t.pid();
         match self.request {
@@ -109,7 +113,8 @@ impl<'a> Planner<'a> {
         ensures first { IfOk result (λ r. r.first ≡ first_of (texts_at (rows_of walker.old.table) self.now.tags.now (T.stopped t.old)) (T.stopped t.old).pid self.now.request.now) }
         ensures room { IfOk result (λ r. IsTrue (is_swap r.edit) → 65536 ≤ stack_at (T.stopped t.old)) }
         ensures walker { WalksAt (T.stopped t.old) walker.old walker.new }
-        ensures process { OnlyPeeks T.stopped T.around t.old t.new }
+        ensures noted { OnOk result (T.unmet t.new ≡ plan_unmet (texts_at (rows_of walker.old.table) self.now.tags.now (T.stopped t.old)) (T.stopped t.old).pid self.now.request.now (T.unmet t.old)) }
+        ensures process { OnlyPeeks T.stopped (lent T.around) t.old t.new }
     {
         // For the proof alone: the process lives.
         let _pid = t.pid();
@@ -134,7 +139,8 @@ impl<'a> Planner<'a> {
         ensures first { IfOk result (λ r. r.first ≡ first_of (texts_at (rows_of walker.old.table) self.now.tags.now (T.stopped t.old)) (T.stopped t.old).pid self.now.request.now) }
         ensures room { IfOk result (λ r. IsTrue (is_swap r.edit) → 65536 ≤ stack_at (T.stopped t.old)) }
         ensures walker { WalksAt (T.stopped t.old) walker.old walker.new }
-        ensures process { OnlyPeeks T.stopped T.around t.old t.new }
+        ensures noted { OnOk result (T.unmet t.new ≡ plan_unmet (texts_at (rows_of walker.old.table) self.now.tags.now (T.stopped t.old)) (T.stopped t.old).pid self.now.request.now (T.unmet t.old)) }
+        ensures process { OnlyPeeks T.stopped (lent T.around) t.old t.new }
     {
         edits_keep_to_paths();
         let pid = t.pid();
@@ -216,7 +222,9 @@ impl<'a> ExecvePlanner<'a> {
         ensures plan { let planner = self.now.planner in
             IfOk result (λ plan. (plan, T.stopped t.new) ≡ execve_plan (rows_of walker.old.table) planner.tags.now (T.stopped t.old) planner.request.now self.now.path.now self.now.lists) }
         ensures walker { WalksAt (T.stopped t.old) walker.old walker.new }
-        ensures edits { OnlyEdits T.stopped T.around t.old t.new }
+        ensures noted { let planner = self.now.planner in
+            OnOk result (T.unmet t.new ≡ execve_unmet (rows_of walker.old.table) planner.tags.now (T.stopped t.old) planner.request.now self.now.path.now self.now.lists (T.unmet t.old)) }
+        ensures edits { OnlyEdits T.stopped (lent T.around) t.old t.new }
     {
         // For the proof alone: the process lives.
         let _pid = t.pid();
@@ -246,7 +254,9 @@ impl<'a> ExecvePlanner<'a> {
         ensures plan { let tags = self.now.planner.tags.now in
             IfOk result (λ plan. (plan, T.stopped t.new) ≡ expand_with (rows_of walker.old.table) tags edit self.now.path.now self.now.lists.args handed (T.stopped t.old)) }
         ensures walker { WalksAt (T.stopped t.old) walker.old walker.new }
-        ensures edits { OnlyEdits T.stopped T.around t.old t.new }
+        ensures noted { let texts = texts_at (rows_of walker.old.table) self.now.planner.tags.now (T.stopped t.old) in
+            OnOk result (T.unmet t.new ≡ expanded_unmet texts (T.stopped t.old).pid handed.env_bytes self.now.path.now handed.args (T.unmet t.old)) }
+        ensures edits { OnlyEdits T.stopped (lent T.around) t.old t.new }
     {
         // For the proof alone: the process lives.
         let _pid = t.pid();
@@ -273,7 +283,9 @@ impl<'a> ExecvePlanner<'a> {
         ensures answer { let texts = texts_at (rows_of walker.old.table) self.now.planner.tags.now (T.stopped t.old) in
             IsAnswer (expanded_at texts (T.stopped t.old).pid handed.env_bytes self.now.path.now handed.args) result }
         ensures walker { WalksAt (T.stopped t.old) walker.old walker.new }
-        ensures process { OnlyPeeks T.stopped T.around t.old t.new }
+        ensures noted { let texts = texts_at (rows_of walker.old.table) self.now.planner.tags.now (T.stopped t.old) in
+            IsWalkNoted (expanded_unmet texts (T.stopped t.old).pid handed.env_bytes self.now.path.now handed.args (T.unmet t.old)) (T.unmet t.new) result }
+        ensures process { OnlyPeeks T.stopped (lent T.around) t.old t.new }
     {
         let pid = t.pid();
         let Handed { args, env_bytes } = handed;

@@ -1,6 +1,6 @@
 //! The tracer.
 ghost use Rattle.std.specs.Prelude.{◌≡◌, OnOk, Some};
-ghost use Rattle.pt_faker.specs.Stopping.{OnlyEdits};
+ghost use Rattle.pt_faker.specs.Stopping.{OnlyEdits, lent};
 ghost use Rattle.pt_faker.specs.kr_stops.Remembering.{AgreesAt, FreesCaller, KeepsAllFree, KeepsOthersFree, StillAgrees};
 ghost use Rattle.pt_tracer.specs.Agreeing.{WalksAt};
 ghost use Rattle.pt_tracer.specs.Answering.{starting_identities};
@@ -52,7 +52,7 @@ impl Model for Tracer {
 
 impl Tracer {
     ghost use Rattle.pt_tracer.specs.Keeping.{KeepingAgrees, KeepingIsFree, starting_keeping};
-    ghost use Rattle.pt_tracer.specs.Watched.{after_pending, born, by_identities, entered, exited, gone, without_pending};
+    ghost use Rattle.pt_tracer.specs.Watched.{after_pending, born, by_identities, entered, entry_unmet, exited, gone, unmet_by_identities, without_pending};
 
     /// A tracer by a walker without a pause, and with the tags of the first process. With an identity option processes start as the user
     /// `ids.0` and the group `ids.1`, and what the host user owns is theirs. It takes no memory.
@@ -82,7 +82,8 @@ impl Tracer {
         ensures enters { OnOk result ((self.new.tracing, T.stopped t.new) ≡ entered self.old.tracing (T.stopped t.old)) }
         ensures walks { OnOk result (WalksAt (T.stopped t.old) self.old.pausing.walker self.new.pausing.walker) }
         ensures pids { OnOk result (self.new.pausing.pids ≡ self.old.pausing.pids) }
-        ensures edits { OnlyEdits T.stopped T.around t.old t.new }
+        ensures noted { OnOk result (T.unmet t.new ≡ entry_unmet self.old.tracing (T.stopped t.old) (T.unmet t.old)) }
+        ensures edits { OnlyEdits T.stopped (lent T.around) t.old t.new }
     {
         let pid = t.pid();
         match t.request() {
@@ -109,7 +110,8 @@ impl Tracer {
         ensures enters { OnOk result ((self.new.tracing, T.stopped t.new) ≡ by_identities self.old.tracing request (T.stopped t.old) self.old.tracing.identities) }
         ensures walks { OnOk result (WalksAt (T.stopped t.old) self.old.pausing.walker self.new.pausing.walker) }
         ensures pids { OnOk result (self.new.pausing.pids ≡ self.old.pausing.pids) }
-        ensures edits { OnlyEdits T.stopped T.around t.old t.new }
+        ensures noted { OnOk result (T.unmet t.new ≡ unmet_by_identities self.old.tracing request (T.stopped t.old) self.old.tracing.identities (T.unmet t.old)) }
+        ensures edits { OnlyEdits T.stopped (lent T.around) t.old t.new }
     {
         let pid = t.pid();
         let passed = Arguments::of(t);
@@ -244,7 +246,7 @@ fn starting_identities(alloc: Global, ids: Option<(u32, u32)>) -> Option<Identit
 impl Stops for Tracer {
     ghost use Rattle.pt_tracer.specs.AgreeingLaws.{lasts-with-shape, paused-agrees};
     ghost use Rattle.pt_tracer.specs.Keeping.{KeepingAgrees, KeepingIsFree};
-    ghost use Rattle.pt_tracer.specs.Watched.{born, entered, exited, gone};
+    ghost use Rattle.pt_tracer.specs.Watched.{asks, born, entered, exited, gone};
 
     ghost enters = { λ x t y u. (y.tracing, u) ≡ entered x.tracing t };
 
@@ -253,6 +255,8 @@ impl Stops for Tracer {
     ghost bears = { λ x parent child y. y.tracing ≡ born x.tracing parent child };
 
     ghost forgets = { λ x pid y. y.tracing ≡ gone x.tracing pid };
+
+    ghost asks = { λ x t. asks x.tracing t };
 
     ghost agrees = { KeepingAgrees };
 
@@ -286,7 +290,8 @@ impl Stops for Tracer {
 }
 
 impl Graphed for Tracer {
-    ghost use Rattle.pt_tracer.specs.Watched.{Tracing, tracer};
+    ghost use Rattle.std.specs.Prelude.{refl};
+    ghost use Rattle.pt_tracer.specs.Watched.{Tracing, asks, tracer};
 
     ghost Part = { Tracing };
 
@@ -294,7 +299,11 @@ impl Graphed for Tracer {
 
     ghost does = { tracer };
 
+    ghost asked = { asks };
+
     fn is_graph() {
         tracer_is_its_definition();
     }
+
+    ghost asks_by_part = { λ x t. refl };
 }

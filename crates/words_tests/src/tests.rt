@@ -19,8 +19,7 @@ const REFUSED: &[(&str, &str)] = &[
     ("--calm=1", "1 Unknown"),
     ("--root-id=", "1 Unknown"),
     ("--root=/", "1 Unknown"),
-    ("--loose", "1 Unknown"),
-    ("--loose=1", "1 Unknown"),
+    ("--tight=0*1", "1 Unknown"),
     ("-r", "1 NoValue"),
     ("-b", "1 NoValue"),
     ("-m", "1 NoValue"),
@@ -35,6 +34,8 @@ const REFUSED: &[(&str, &str)] = &[
     ("--env", "1 NoValue"),
     ("--turns", "1 NoValue"),
     ("--schedule", "1 NoValue"),
+    ("--loose", "1 NoValue"),
+    ("--loose|0*1", "1 NoValue"),
     ("--case", "1 NoValue"),
     ("--turns=0", "1 BadNumber"),
     ("--turns=", "1 BadNumber"),
@@ -58,6 +59,15 @@ const REFUSED: &[(&str, &str)] = &[
     ("--schedule=0*1,,0*1", "1 BadSchedule"),
     ("--schedule=0*1*2", "1 BadSchedule"),
     ("--schedule=000000000*1", "1 BadSchedule"),
+    ("--loose=", "1 BadSchedule"),
+    ("--loose=1", "1 BadSchedule"),
+    ("--loose=1|/p", "1 BadSchedule"),
+    ("--loose=256*1", "1 BadSchedule"),
+    ("--loose=0*0", "1 BadSchedule"),
+    ("--loose=0*100001", "1 BadSchedule"),
+    ("--loose=0*1,", "1 BadSchedule"),
+    ("--loose=0*1,,0*1", "1 BadSchedule"),
+    ("--loose=000000000*1", "1 BadSchedule"),
     ("-b|", "1 BadBind"),
     ("-b|:/x", "1 BadBind"),
     ("-b|x:", "1 BadBind"),
@@ -75,6 +85,7 @@ const REFUSED: &[(&str, &str)] = &[
     ("--pwd=/|--cwd=/", "2 Twice"),
     ("--turns=1|--turns=1", "2 Twice"),
     ("--schedule=0*1|--schedule=0*1", "2 Twice"),
+    ("--loose=0*1|--loose=0*1", "2 Twice"),
     ("--case=1|--case=1", "2 Twice"),
     ("-i|7:8|-0", "3 Twice"),
     ("-0|-i|1:2", "2 Twice"),
@@ -95,6 +106,7 @@ const REFUSED: &[(&str, &str)] = &[
 const FIRST_FAULTS: &[(&str, &str)] = &[
     ("--turns=1|--turns=0", "2 BadNumber"),
     ("-r|/|-r", "3 NoValue"),
+    ("--loose=0*1|--loose=1", "2 BadSchedule"),
     ("-i|1:2|-i|x", "3 Twice"),
     ("-0|-i|x", "2 Twice"),
     ("-b|:x|-y", "1 BadBind"),
@@ -125,6 +137,22 @@ const FIRST_FAULTS: &[(&str, &str)] = &[
     ("--case=1|--calm", "2 CaseAlone"),
     ("--calm|--case=1", "1 CaseAlone"),
     ("--turns=1|--case=1|--native|p", "3 CaseAlone"),
+    ("--case=1|--loose=0*1", "2 CaseAlone"),
+    ("--loose=0*1|--case=1", "1 CaseAlone"),
+    ("--loose=0*1|--native|--case=1", "1 CaseAlone"),
+    ("--loose=0*1|--calm", "2 CalmAlone"),
+    ("--calm|--loose=0*1|-0", "1 CalmAlone"),
+    ("--loose=0*1|--native|/p", "1 LooseAlone"),
+    ("--native|--loose=0*1|/p", "2 LooseAlone"),
+    ("--loose=0*1|--native|--calm", "1 LooseAlone"),
+    ("--calm|--native|--loose=0*1", "3 LooseAlone"),
+    ("--loose=0*1|--schedule=0*1", "1 LooseAlone"),
+    ("--schedule=0*1|--loose=0*1", "2 LooseAlone"),
+    ("--loose=0*1|-0", "1 LooseAlone"),
+    ("-0|--loose=0*1", "2 LooseAlone"),
+    ("--loose=0*1|-i|1:2", "1 LooseAlone"),
+    ("-i|1:2|--loose=0*1", "3 LooseAlone"),
+    ("-r|/|--loose=0*1|--root-id|p", "3 LooseAlone"),
 ];
 
 /// One table of words that are accepted, and what they ask for.
@@ -165,6 +193,11 @@ const ACCEPTED: &[(&str, &str)] = &[
     (
         "--schedule=255*100000,007*01",
         "/ / 1000000 slot 255*100000 slot 7*1",
+    ),
+    ("--loose=0*1|/p", "/ / 1000000 loose 0*1 /p"),
+    (
+        "-r|/g|--loose=255*100000,007*01|--turns=3|p",
+        "/g / 3 loose 255*100000 loose 7*1 p",
     ),
     ("--native|--native", "/ / 1000000 native"),
     ("--calm|--native|p", "/ / 1000000 native calm p"),
@@ -218,10 +251,19 @@ fn add_bind(alloc: Global, line: &mut String, bind: &Bind) -> Result<(), NoMemor
     add(line, bind.as_str())
 }
 
-fn add_slot(alloc: Global, line: &mut String, slot: Slot) -> Result<(), NoMemory> {
-    let Slot { pick, fuel } = slot;
-    let slot = format!(in alloc; "slot {pick}*{fuel}")?;
-    add(line, slot.as_str())
+/// Adds slots, each behind a word of its own.
+fn add_slots(
+    alloc: Global,
+    line: &mut String,
+    front: &str,
+    slots: &[Slot],
+) -> Result<(), NoMemory> {
+    for slot in slots {
+        let Slot { pick, fuel } = *slot;
+        let slot = format!(in alloc; "{front} {pick}*{fuel}")?;
+        add(line, slot.as_str())?;
+    }
+    Ok(())
 }
 
 fn add_ids(alloc: Global, line: &mut String, ids: Option<(u32, u32)>) -> Result<(), NoMemory> {
@@ -245,10 +287,8 @@ fn add_lists(alloc: Global, line: &mut String, options: &Options) -> Result<(), 
         add_bind(alloc, line, bind)?;
     }
     add_texts(line, " env", &options.env)?;
-    for slot in options.schedule.as_slice() {
-        add_slot(alloc, line, *slot)?;
-    }
-    Ok(())
+    add_slots(alloc, line, "slot", options.schedule.as_slice())?;
+    add_slots(alloc, line, "loose", options.loose.as_slice())
 }
 
 /// What options ask for, as a row writes it.
@@ -284,6 +324,7 @@ fn name_of(why: Why) -> &'static str {
         Why::CaseAlone => "CaseAlone",
         Why::ZeroByte => "ZeroByte",
         Why::BadId => "BadId",
+        Why::LooseAlone => "LooseAlone",
     }
 }
 

@@ -57,12 +57,12 @@ returns-in-Readv-clause-performs g c =
 pub returns-in-Write-clause-performs : goal.returns-in-Write-clause-performs
 returns-in-Write-clause-performs g c =
     let fd-same : to_z w32 (of_z w32 c.in-Write.fd) ≡ c.in-Write.fd = search rules in
-    alone c.in-Write.is (λ _. (subst (λ z. Performs c.args.pid (λ k. write_row k z c.in-Write.buf c.in-Write.n) c.args.state.now c.write.new.state c.write.result) fd-same c.write.ensures.performs))
+    alone c.in-Write.is (λ _. (subst (λ z. Performs c.args.pid (λ k. write_row k z c.in-Write.buf c.in-Write.n) c.args.state.now c.write.new.state c.write.result.outcome) fd-same (λ some. (c.write.ensures.writes some).performed)))
 
 pub returns-in-Writev-clause-performs : goal.returns-in-Writev-clause-performs
 returns-in-Writev-clause-performs g c =
     let fd-same : to_z w32 (of_z w32 c.in-Writev.fd) ≡ c.in-Writev.fd = search rules in
-    alone c.in-Writev.is (λ _. (subst (λ z. Performs c.args.pid (λ k. writev_row k z c.in-Writev.list c.in-Writev.count) c.args.state.now c.writev.new.state c.writev.result) fd-same c.writev.ensures.performs))
+    alone c.in-Writev.is (λ _. (subst (λ z. Performs c.args.pid (λ k. writev_row k z c.in-Writev.list c.in-Writev.count) c.args.state.now c.writev.new.state c.writev.result.outcome) fd-same (λ some. (c.writev.ensures.writes some).performed)))
 
 pub returns-in-Ftruncate-clause-performs : goal.returns-in-Ftruncate-clause-performs
 returns-in-Ftruncate-clause-performs g c =

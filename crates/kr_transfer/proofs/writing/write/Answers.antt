@@ -9,7 +9,8 @@ use Rattle.kr_seen.specs.kr_model.Reply.{refuse}
 use Rattle.kr_seen.specs.kr_model.State as model
 use Rattle.kr_seen.specs.kr_ops.Meaning.{meaning}
 use Rattle.kr_transfer.specs.Channels.{channel_of}
-use Rattle.kr_transfer.proofs.ChannelLemmas.{by-closed, by-open, open-here}
+use Rattle.kr_transfer.proofs.ChannelLemmas.{open-here}
+use Rattle.kr_transfer.proofs.WrittenLemmas.{wrote-closed, wrote-open}
 use Rattle.kr_transfer.proofs.writing.write.Goals as goal
 
 pub write_open-requires : goal.write_open-requires
@@ -17,16 +18,16 @@ write_open-requires g c =
     let k = known model.image_layout c.args.pid (meaning c.args.state.now) in
     (lit< tt, (c.requires, open-here c.args.pid c.args.state.now c.args.fd c.in-Some.channel (ap (channel_of k) (sym (to_z-of_z {w = w32} {z = c.args.fd} c.ranges.fd)) ∙ sym c.in-Some.ensures)))
 
-pub returns-in-Some-clause-performs : goal.returns-in-Some-clause-performs
-returns-in-Some-clause-performs g c = λ some.
+pub returns-in-Some-clause-writes : goal.returns-in-Some-clause-writes
+returns-in-Some-clause-writes g c = λ some.
     let k = known model.image_layout c.args.pid (meaning c.args.state.now) in
-    by-open c.args.pid c.args.state.now c.write_open.new.state c.write_open.result c.args.fd
-    (λ k n o. if not o.write then refuse EBADF else if is_dir o.what then refuse EISDIR else write_pieces k n o (one_piece c.args.buf c.args.n)) c.in-Some.channel
-    (ap (channel_of k) (sym (to_z-of_z {w = w32} {z = c.args.fd} c.ranges.fd)) ∙ sym c.in-Some.ensures) (c.write_open.ensures.performs some)
+    wrote-open c.args.pid c.args.state.now c.write_open.new.state c.args.fd
+    (λ k n o. if not o.write then refuse EBADF else if is_dir o.what then refuse EISDIR else write_pieces k n o (one_piece c.args.buf c.args.n)) c.write_open.result c.in-Some.channel
+    (ap (channel_of k) (sym (to_z-of_z {w = w32} {z = c.args.fd} c.ranges.fd)) ∙ sym c.in-Some.ensures) (c.write_open.ensures.writes some)
 
-pub returns-in-None-clause-performs : goal.returns-in-None-clause-performs
-returns-in-None-clause-performs g c = λ some.
+pub returns-in-None-clause-writes : goal.returns-in-None-clause-writes
+returns-in-None-clause-writes g c = λ some.
     let k = known model.image_layout c.args.pid (meaning c.args.state.now) in
-    by-closed c.args.pid c.args.state.now c.args.state.now c.refused.result c.args.fd
-    (λ k n o. if not o.write then refuse EBADF else if is_dir o.what then refuse EISDIR else write_pieces k n o (one_piece c.args.buf c.args.n)) c.requires.view.lawful.pids
+    wrote-closed c.args.pid c.args.state.now c.args.state.now c.args.fd
+    (λ k n o. if not o.write then refuse EBADF else if is_dir o.what then refuse EISDIR else write_pieces k n o (one_piece c.args.buf c.args.n)) c.refused.result c.requires.view.lawful.pids
     (ap (channel_of k) (sym (to_z-of_z {w = w32} {z = c.args.fd} c.ranges.fd)) ∙ sym c.in-None.ensures) c.refused.ensures refl

@@ -9,7 +9,6 @@ use Rattle.kr_seen.specs.kr_model.State as model
 use Rattle.kr_seen.specs.kr_ops.Meaning.{meaning}
 use Rattle.kr_seen.specs.PerformedRows.{memory_of}
 use Rattle.kr_seen.specs.Using.{HasComeTo}
-use Rattle.kr_seen.proofs.PerformLemmas.{by-refusal}
 use Rattle.kr_seen.proofs.UsingLemmas.{begins}
 use Rattle.kr_transfer.specs.Moving.{told}
 use Rattle.kr_transfer.proofs.ChannelLemmas.{file-there}
@@ -17,7 +16,8 @@ use Rattle.kr_transfer.proofs.MovingLemmas.{comes-then}
 use Rattle.kr_transfer.proofs.PieceLemmas.{allowed-cut, asked-cut}
 use Rattle.kr_transfer.proofs.ReadingLemmas.{file-open}
 use Rattle.kr_transfer.proofs.ViewLemmas.{view-read, view-sound}
-use Rattle.kr_transfer.proofs.WritingLemmas.{by-then, file-past, file-within, place-is, still-channel, still-open}
+use Rattle.kr_transfer.proofs.WritingLemmas.{file-past, file-within, place-is, still-channel, still-open}
+use Rattle.kr_transfer.proofs.WrittenLemmas.{tree-read, wrote-refusal, wrote-then}
 use Rattle.kr_transfer.proofs.writing.write_file.Goals as goal
 
 pub place_of-at-requires : goal.place_of-at-requires
@@ -50,8 +50,8 @@ put_in_file-requires g c =
       ),
     )
 
-pub returns-clause-performs : goal.returns-clause-performs
-returns-clause-performs g c = λ some o h.
+pub returns-clause-writes : goal.returns-clause-writes
+returns-clause-writes g c = λ some o h.
     let k = known model.image_layout c.args.pid (meaning c.args.state.now) in
     let fd = c.args.channel.fd in
     let at = c.place_of-at.result in
@@ -60,17 +60,17 @@ returns-clause-performs g c = λ some o h.
     let file = file-open k c.args.channel o h c.requires.file in
     let below = c.if-at.false in
     let within : at < 16777216 = omega arith in
-    by-then c.args.pid (λ k. write_file k fd o pieces (write_place k o)) (λ k. put_in_file k fd o at c.as_slice.result.now) c.args.state.now c.read_all.new.state c.put_in_file.new.state c.put_in_file.result
+    wrote-then c.args.pid (λ k. write_file k fd o pieces (write_place k o)) (λ k. put_in_file k fd o at c.as_slice.result.now) c.args.state.now c.read_all.new.state c.put_in_file.new.state c.put_in_file.result
     (comes-then c.args.pid _ _ _ c.args.state.now c.args.state.now c.read_all.new.state
     (begins c.args.pid (write_file k fd o pieces (write_place k o)) c.args.state.now (read_all (cut_to (file_limit - at) pieces) (put_in_file k fd o at))
     (ap (write_file k fd o pieces) (place-is c.args.state.now c.args.pid c.requires.caller.view c.args.channel o h file at c.place_of-at.ensures) ∙ file-within c.args.state.now c.args.pid c.requires.caller.view c.args.channel o h file fd at pieces within))
     (subst (λ bytes. HasComeTo c.args.pid (read_all (cut_to (file_limit - at) pieces) (put_in_file k fd o at)) c.args.state.now (put_in_file k fd o at bytes) c.read_all.new.state) (sym c.as_slice.ensures) (c.in-Ok.ensures.comes (put_in_file k fd o at))))
-    reads.leaves.known (c.put_in_file.ensures.performs some o (still-channel c.args.pid c.args.channel o c.args.state.now c.read_all.new.state reads.leaves.known h))
+    reads.leaves.known (tree-read c.args.pid c.args.state.now c.read_all.new.state reads) (c.put_in_file.ensures.writes some o (still-channel c.args.pid c.args.channel o c.args.state.now c.read_all.new.state reads.leaves.known h))
 
-pub returns-then-at-clause-performs : goal.returns-then-at-clause-performs
-returns-then-at-clause-performs g c = λ some o h.
+pub returns-then-at-clause-writes : goal.returns-then-at-clause-writes
+returns-then-at-clause-writes g c = λ some o h.
     let k = known model.image_layout c.args.pid (meaning c.args.state.now) in
     let file = file-open k c.args.channel o h c.requires.file in
-    by-refusal c.args.pid _ c.args.state.now c.args.state.now c.refused.result c.requires.caller.view.lawful.pids EFBIG
+    wrote-refusal c.args.pid _ c.args.state.now c.args.state.now c.refused.result c.requires.caller.view.lawful.pids EFBIG
     (ap (write_file k c.args.channel.fd o (told c.args.pieces.now)) (place-is c.args.state.now c.args.pid c.requires.caller.view c.args.channel o h file c.place_of-at.result c.place_of-at.ensures)
     ∙ file-past c.args.state.now c.args.pid c.requires.caller.view c.args.channel o h file c.args.channel.fd c.place_of-at.result (told c.args.pieces.now) c.if-at.true) c.refused.ensures refl

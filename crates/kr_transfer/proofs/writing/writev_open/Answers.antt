@@ -8,8 +8,7 @@ use Rattle.kr_seen.specs.kr_model.Reply.{refuse}
 use Rattle.kr_seen.specs.kr_model.State as model
 use Rattle.kr_seen.specs.kr_ops.Meaning.{meaning}
 use Rattle.kr_seen.specs.Using.{HasComeTo}
-use Rattle.kr_seen.proofs.PerformLemmas.{by-refusal}
-use Rattle.kr_seen.proofs.UsingLemmas.{begins, refused-after}
+use Rattle.kr_seen.proofs.UsingLemmas.{begins}
 use Rattle.kr_transfer.specs.Moving.{told}
 use Rattle.kr_transfer.specs.declared.pieces.Piece.{Piece}
 use Rattle.kr_transfer.proofs.ListLemmas.{no-want, why}
@@ -17,13 +16,14 @@ use Rattle.kr_transfer.proofs.MovingLemmas.{comes-then}
 use Rattle.kr_transfer.proofs.ReadingLemmas.{write-goes-on, write-refused}
 use Rattle.kr_transfer.proofs.SizeLemmas.{no-error}
 use Rattle.kr_transfer.proofs.ViewLemmas.{view-read}
-use Rattle.kr_transfer.proofs.WritingLemmas.{by-then, still-channel, still-open}
+use Rattle.kr_transfer.proofs.WritingLemmas.{still-channel, still-open}
+use Rattle.kr_transfer.proofs.WrittenLemmas.{tree-read, wrote-refusal, wrote-refused, wrote-then}
 use Rattle.kr_transfer.proofs.writing.writev_open.Goals as goal
 
-pub returns-in-Some-clause-performs : goal.returns-in-Some-clause-performs
-returns-in-Some-clause-performs g c = λ some o h.
+pub returns-in-Some-clause-writes : goal.returns-in-Some-clause-writes
+returns-in-Some-clause-writes g c = λ some o h.
     let k = known model.image_layout c.args.pid (meaning c.args.state.now) in
-    by-refusal c.args.pid _ c.args.state.now c.args.state.now c.refused.result c.requires.caller.view.lawful.pids c.in-Some.errno
+    wrote-refusal c.args.pid _ c.args.state.now c.args.state.now c.refused.result c.requires.caller.view.lawful.pids c.in-Some.errno
     (write-refused k c.args.channel o h (with_list c.args.list c.args.count (write_pieces k c.args.channel.fd o)) c.in-Some.errno c.in-Some.ensures) c.refused.ensures refl
 
 pub write_pieces-requires : goal.write_pieces-requires
@@ -39,22 +39,22 @@ write_pieces-requires g c =
       ),
     )
 
-pub returns-in-Ok-clause-performs : goal.returns-in-Ok-clause-performs
-returns-in-Ok-clause-performs g c = λ some o h.
+pub returns-in-Ok-clause-writes : goal.returns-in-Ok-clause-writes
+returns-in-Ok-clause-writes g c = λ some o h.
     let k = known model.image_layout c.args.pid (meaning c.args.state.now) in
     let fd = c.args.channel.fd in
     let old = c.args.state.now in
     let mid = c.read_list.new.state in
     let reads = c.in-Ok.ensures.reads (λ e. no-error e) in
-    by-then c.args.pid (λ k. if not o.write then refuse EBADF else if is_dir o.what then refuse EISDIR else with_list c.args.list c.args.count (write_pieces k fd o)) (λ k. write_pieces k fd o (told c.as_slice.result.now)) old mid c.write_pieces.new.state c.write_pieces.result
+    wrote-then c.args.pid (λ k. if not o.write then refuse EBADF else if is_dir o.what then refuse EISDIR else with_list c.args.list c.args.count (write_pieces k fd o)) (λ k. write_pieces k fd o (told c.as_slice.result.now)) old mid c.write_pieces.new.state c.write_pieces.result
     (comes-then c.args.pid _ _ _ old old mid
     (begins c.args.pid (if not o.write then refuse EBADF else if is_dir o.what then refuse EISDIR else with_list c.args.list c.args.count (write_pieces k fd o)) old (with_list c.args.list c.args.count (write_pieces k fd o))
     (write-goes-on k c.args.channel o h (with_list c.args.list c.args.count (write_pieces k fd o)) c.in_default.ensures))
     (subst (λ (ps : List Piece). HasComeTo c.args.pid (with_list c.args.list c.args.count (write_pieces k fd o)) old (write_pieces k fd o (told ps)) mid) (sym c.as_slice.ensures.value) (c.in-Ok.ensures.ok (write_pieces k fd o))))
-    reads.leaves.known (c.write_pieces.ensures.performs some o (still-channel c.args.pid c.args.channel o old mid reads.leaves.known h))
+    reads.leaves.known (tree-read c.args.pid old mid reads) (c.write_pieces.ensures.writes some o (still-channel c.args.pid c.args.channel o old mid reads.leaves.known h))
 
-pub returns-in-Err-clause-performs : goal.returns-in-Err-clause-performs
-returns-in-Err-clause-performs g c = λ some o h.
+pub returns-in-Err-clause-writes : goal.returns-in-Err-clause-writes
+returns-in-Err-clause-writes g c = λ some o h.
     let k = known model.image_layout c.args.pid (meaning c.args.state.now) in
     let fd = c.args.channel.fd in
     let old = c.args.state.now in
@@ -62,7 +62,7 @@ returns-in-Err-clause-performs g c = λ some o h.
     why c.in-Err.fault
     (λ e is.
     let reads = c.in-Err.ensures.reads (no-want e c.in-Err.fault is) in
-    refused-after c.args.pid (λ k. if not o.write then refuse EBADF else if is_dir o.what then refuse EISDIR else with_list c.args.list c.args.count (write_pieces k fd o)) old mid mid c.answer_of.result e reads.leaves.sound.pids
+    wrote-refused c.args.pid (λ k. if not o.write then refuse EBADF else if is_dir o.what then refuse EISDIR else with_list c.args.list c.args.count (write_pieces k fd o)) old mid mid c.answer_of.result e reads.leaves.sound.pids
     (comes-then c.args.pid _ _ _ old old mid
     (begins c.args.pid (if not o.write then refuse EBADF else if is_dir o.what then refuse EISDIR else with_list c.args.list c.args.count (write_pieces k fd o)) old (with_list c.args.list c.args.count (write_pieces k fd o))
     (write-goes-on k c.args.channel o h (with_list c.args.list c.args.count (write_pieces k fd o)) c.in_default.ensures))

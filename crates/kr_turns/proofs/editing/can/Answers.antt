@@ -1,6 +1,6 @@
 use Rattle.std.proofs.Common.{sym, ap, ◌∙◌}
 use Rattle.kr_steps.specs.rv_mem.Pages.{allows_all}
-use Rattle.law_steady.specs.kr_model.State.{Image}
+use Rattle.kr_steps.specs.kr_model.State.{Image}
 use Rattle.kr_hostview.proofs.kr_ops.OpeningLemmas.{not-living}
 use Rattle.kr_turns.proofs.EditingLemmas.{image-here}
 use Rattle.kr_turns.proofs.editing.can.Goals as goal

@@ -5,7 +5,7 @@ use Rattle.kr_steps.specs.rv_mem.Memory.{Memory, with_pages}
 use Rattle.kr_steps.specs.rv_mem.Pages.{allows_all, written}
 use Rattle.kr_steps.specs.rv_mem.declared.fault.StoreFault.TheVariants.{BadAddress}
 use Rattle.kr_steps.specs.rv_mem.declared.rights.Use.TheVariants.{Write}
-use Rattle.law_steady.specs.kr_model.State.{Image}
+use Rattle.kr_steps.specs.kr_model.State.{Image}
 use Rattle.kr_hostview.specs.kr_ops.Meaning.{meaning}
 use Rattle.kr_hostview.proofs.kr_ops.OpeningLemmas.{not-living}
 use Rattle.kr_steps.proofs.ComputingLemmas.{changed_at}

@@ -1,5 +1,5 @@
 use Rattle.std.proofs.Common.{slice_set}
-use Rattle.law_steady.specs.kr_model.State.{Image}
+use Rattle.kr_steps.specs.kr_model.State.{Image}
 use Rattle.kr_hostview.proofs.kr_ops.OpeningLemmas.{not-living}
 use Rattle.kr_turns.proofs.EditingLemmas.{becomes, runs-on, untouched}
 use Rattle.kr_turns.proofs.editing.set_register.Goals as goal

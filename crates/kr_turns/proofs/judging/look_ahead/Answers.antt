@@ -2,7 +2,7 @@ use Rattle.std.proofs.Common.{ap, sym, ◌∙◌, inl}
 use Rattle.std.specs.Prelude.{Result}
 use Rattle.kr_hostview.specs.pr_base.declared.errno.Errno.{Errno}
 use Rattle.kr_calm.specs.Rules.{breaks_2}
-use Rattle.law_steady.specs.kr_model.Walks.{Targets}
+use Rattle.kr_steps.specs.kr_model.Walks.{Targets}
 use Rattle.kr_turns.proofs.JudgeLemmas.{noted-read}
 use Rattle.kr_turns.proofs.judging.look_ahead.Goals as goal
 

@@ -1,5 +1,5 @@
 use Rattle.std.proofs.Common.{◌≡◌, lit<, sym, ◌∙◌, inl, inr}
-use Rattle.law_steady.specs.kr_model.declared.outcome.Outcome.TheVariants as outcome
+use Rattle.kr_steps.specs.kr_model.declared.outcome.Outcome.TheVariants as outcome
 use Rattle.kr_turns.proofs.judging.was_read.Goals as goal
 
 pub marks_read-requires : goal.marks_read-requires

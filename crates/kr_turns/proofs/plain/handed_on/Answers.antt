@@ -1,6 +1,6 @@
 use Rattle.std.proofs.Common.{sym, ap, ◌∙◌}
-use Rattle.law_steady.specs.kr_model.Known.{Known}
-use Rattle.law_steady.specs.kr_model.State.{image_layout}
+use Rattle.kr_steps.specs.kr_model.Known.{Known}
+use Rattle.kr_steps.specs.kr_model.State.{image_layout}
 use Rattle.kr_hostview.specs.kr_ops.Meaning.{meaning}
 use Rattle.kr_calm.proofs.kr_seen.LookLemmas.{known-numbered}
 use Rattle.kr_turns.specs.Target.{target_of}

@@ -2,7 +2,7 @@ use Rattle.std.proofs.Common.{lit<, Err, sym, ap, subst, false, None, ◌||◌, 
 use Rattle.kr_steps.specs.rv_mem.Memory.{Memory}
 use Rattle.kr_execve.specs.kr_view.declared.target.Reach.{Reach}
 use Rattle.kr_execve.specs.kr_view.declared.target.WalkFault.{WalkFault}
-use Rattle.law_steady.specs.kr_model.Walks.{targets_of}
+use Rattle.kr_steps.specs.kr_model.Walks.{targets_of}
 use Rattle.kr_hostview.specs.kr_ops.Meaning.{meaning}
 use Rattle.kr_hostview.proofs.kr_ops.UseLemmas.{sound-of}
 use Rattle.kr_calm.specs.kr_seen.Numbered.{state_numbered}
@@ -13,6 +13,7 @@ use Rattle.kr_steps.proofs.ComputingLemmas.{runs-later}
 use Rattle.kr_turns.specs.Breaking.{nothing_reached, rule_told}
 use Rattle.kr_turns.specs.Looking.{judged}
 use Rattle.kr_turns.specs.PlainCall.{refusal_told}
+use Rattle.kr_turns.proofs.AlteredLemmas.{altered-around, noted-tree, settles-tree, unaltered}
 use Rattle.kr_turns.proofs.BreakLemmas.{real-points, refused-told}
 use Rattle.kr_turns.proofs.NotedLemmas.{along-kept, called-kept, lives-kept, runs-kept}
 use Rattle.kr_turns.proofs.NumberLemmas.{memory-numbered}
@@ -75,8 +76,8 @@ look_ahead-ahead-requires g c =
       (record { points = real-points c.args.state.now.tree table lawful.tree lawful.mounts; few = c.requires.few_rows }, (record { sound = sound-of number table c.args.state.now lawful runs.served; lives = c.requires.caller.lives }, c.in-Ok.ensures.answer)),
     )
 
-pub carry_out_along-outcome-requires : goal.carry_out_along-outcome-requires
-carry_out_along-outcome-requires g c =
+pub carry_out_along-carried-requires : goal.carry_out_along-carried-requires
+carry_out_along-carried-requires g c =
     let number = g.P.Places.number in
     let table = g.P.Places.mounts c.args.places.now in
     let old = c.args.state.now in
@@ -107,8 +108,8 @@ judge_call-broken-requires g c =
     let mid-runs = runs-kept number table c.args.pid c.args.state.now c.look_ahead-ahead.new.state c.args.request.now c.look_ahead-ahead.ensures.noted c.requires.caller.lives may.calls may.runs in (
       lit< tt,
       λ wanted.
-          let runs = c.carry_out_along-outcome.ensures.runs may.calls may.few mid-runs wanted in
-          sound-of number table c.carry_out_along-outcome.new.state runs.lasts.lawful runs.served,
+          let runs = c.carry_out_along-carried.ensures.runs may.calls may.few mid-runs wanted in
+          sound-of number table c.carry_out_along-carried.new.state runs.lasts.lawful runs.served,
     )
 
 pub settle-requires : goal.settle-requires
@@ -119,8 +120,8 @@ settle-requires g c =
     let mid-runs = runs-kept number table c.args.pid c.args.state.now c.look_ahead-ahead.new.state c.args.request.now c.look_ahead-ahead.ensures.noted c.requires.caller.lives may.calls may.runs in (
       lit< tt,
       λ wanted.
-          let runs = c.carry_out_along-outcome.ensures.runs may.calls may.few mid-runs wanted in
-          sound-of number table c.carry_out_along-outcome.new.state runs.lasts.lawful runs.served,
+          let runs = c.carry_out_along-carried.ensures.runs may.calls may.few mid-runs wanted in
+          sound-of number table c.carry_out_along-carried.new.state runs.lasts.lawful runs.served,
     )
 
 pub returns-clause-came : goal.returns-clause-came
@@ -128,10 +129,10 @@ returns-clause-came g c =
     let number = g.P.Places.number in
     let table = g.P.Places.mounts c.args.places.now in
     let old = c.args.state.now in
-    let after = c.carry_out_along-outcome.new.state in
-    let called = called-kept number table c.args.pid old c.look_ahead-ahead.new.state c.args.request.now c.requires.caller.may.runs.lasts.lawful.pids c.look_ahead-ahead.ensures.noted after c.carry_out_along-outcome.result (c.carry_out_along-outcome.ensures.called c.in_ok-end.ensures.want) in
-    operated-now number table c.args.pid c.args.request.now old after c.carry_out_along-outcome.result called c.settle.new.state
-    (record { end = c.in_ok-end.end; child = c.child_of-child.result; handed = c.handed_on-handed.result; reach = c.walk_paths.new.reach; broken = c.judge_call-broken.result })
+    let after = c.carry_out_along-carried.new.state in
+    let called = called-kept number table c.args.pid old c.look_ahead-ahead.new.state c.args.request.now c.requires.caller.may.runs.lasts.lawful.pids c.look_ahead-ahead.ensures.noted after c.carry_out_along-carried.result.outcome (c.carry_out_along-carried.ensures.called c.in_ok-end.ensures.want) in
+    operated-now number table c.args.pid c.args.request.now old after c.carry_out_along-carried.result.outcome called c.settle.new.state
+    (record { end = c.in_ok-end.end; child = c.child_of-child.result; handed = c.handed_on-handed.result; reach = c.walk_paths.new.reach; broken = c.judge_call-broken.result; altered = c.carry_out_along-carried.result.altered })
     c.in_ok-end.ensures.settles c.in_ok-end.ensures.end c.child_of-child.ensures
     (c.handed_on-handed.ensures _ c.in-Ok.ensures.answer)
     ∙ no-exec-requested table c.args.pid (state_numbered number (meaning old)) c.args.request.now c.requires.kind
@@ -148,11 +149,11 @@ returns-clause-rule g c =
     let old = c.args.state.now in
     let s = state_numbered number (meaning old) in
     let r = c.args.request.now in
-    let after = c.carry_out_along-outcome.new.state in
+    let after = c.carry_out_along-carried.new.state in
     let wanted = c.in_ok-end.ensures.want in
-    let called = called-kept number table c.args.pid old c.look_ahead-ahead.new.state r c.requires.caller.may.runs.lasts.lawful.pids c.look_ahead-ahead.ensures.noted after c.carry_out_along-outcome.result (c.carry_out_along-outcome.ensures.called wanted) in
-    c.judge_call-broken.ensures wanted number table r s c.look_ahead-ahead.ensures.ahead (lives-shown number c.args.pid old c.requires.caller.lives) (outcome-told number table c.args.pid r old after c.carry_out_along-outcome.result called)
-    (row-left number table c.args.pid r old after c.carry_out_along-outcome.result called)
+    let called = called-kept number table c.args.pid old c.look_ahead-ahead.new.state r c.requires.caller.may.runs.lasts.lawful.pids c.look_ahead-ahead.ensures.noted after c.carry_out_along-carried.result.outcome (c.carry_out_along-carried.ensures.called wanted) in
+    c.judge_call-broken.ensures wanted number table r s c.look_ahead-ahead.ensures.ahead (lives-shown number c.args.pid old c.requires.caller.lives) (outcome-told number table c.args.pid r old after c.carry_out_along-carried.result.outcome called)
+    (row-left number table c.args.pid r old after c.carry_out_along-carried.result.outcome called)
     ∙ ap (λ (reach : Reach). judged g.row.M table c.args.pid r s c.args.no_shelf reach) c.in-Ok.ensures.reach
     ∙ no-exec-rule g.row.M table c.args.pid c.args.no_shelf s r c.requires.kind
 
@@ -161,4 +162,15 @@ returns-clause-runs g c = λ calls few runs.
     let number = g.P.Places.number in
     let table = g.P.Places.mounts c.args.places.now in
     c.in_ok-end.ensures.runs _ _ _
-    (c.carry_out_along-outcome.ensures.runs calls few (runs-kept number table c.args.pid c.args.state.now c.look_ahead-ahead.new.state c.args.request.now c.look_ahead-ahead.ensures.noted c.requires.caller.lives calls runs) c.in_ok-end.ensures.want)
+    (c.carry_out_along-carried.ensures.runs calls few (runs-kept number table c.args.pid c.args.state.now c.look_ahead-ahead.new.state c.args.request.now c.look_ahead-ahead.ensures.noted c.requires.caller.lives calls runs) c.in_ok-end.ensures.want)
+
+pub returns-in-Err-Err-clause-altered : goal.returns-in-Err-Err-clause-altered
+returns-in-Err-Err-clause-altered g c = unaltered c.refuse.result.altered c.args.state.now.tree c.refuse.new.state.tree c.refuse.ensures.altered c.refuse.ensures.tree
+
+pub returns-clause-altered : goal.returns-clause-altered
+returns-clause-altered g c =
+    let old = c.args.state.now in
+    let mid = c.look_ahead-ahead.new.state in
+    let after = c.carry_out_along-carried.new.state in
+    altered-around c.carry_out_along-carried.result.altered old.tree mid.tree after.tree c.settle.new.state.tree (noted-tree c.args.pid c.args.request.now old mid c.look_ahead-ahead.ensures.noted)
+    (settles-tree c.args.pid c.carry_out_along-carried.result.outcome after c.settle.new.state c.in_ok-end.ensures.settles) (c.carry_out_along-carried.ensures.altered c.in_ok-end.ensures.want)

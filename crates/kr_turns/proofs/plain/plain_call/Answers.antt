@@ -1,4 +1,4 @@
-use Rattle.std.proofs.Common.{lit<, Ok, Err, ap, subst, ◌∙◌}
+use Rattle.std.proofs.Common.{lit<, Ok, Err, ap, refl, subst, ◌∙◌}
 use Rattle.std.proofs.lemmas.Result.{on_ok_weaker}
 use Rattle.kr_execve.specs.kr_calls.declared.fault.CallFault.{CallFault}
 use Rattle.kr_hostview.specs.kr_ops.Meaning.{meaning}
@@ -9,6 +9,7 @@ use Rattle.kr_steps.proofs.ComputingLemmas.{runs-later}
 use Rattle.kr_steps.specs.Computing.{Requests}
 use Rattle.kr_turns.specs.Breaking.{nothing_reached}
 use Rattle.kr_turns.specs.PlainCall.{refusal_told}
+use Rattle.kr_turns.proofs.AlteredLemmas.{altered-around, meant-tree, unaltered}
 use Rattle.kr_turns.proofs.PlainLemmas.{call-refused, carried-left, if-ok, lives-mid, reach-carried, reach-refused, rule-carried, rule-refused}
 use Rattle.kr_turns.proofs.plain.plain_call.Goals as goal
 
@@ -77,3 +78,15 @@ returns-clause-rule g c =
 
 pub returns-clause-runs : goal.returns-clause-runs
 returns-clause-runs g c = on_ok_weaker c.carry_request.result (λ h calls few runs. h calls few (c.in-Ok.ensures.runs _ _ calls runs)) c.carry_request.ensures.runs
+
+pub returns-in-Err-Err-clause-altered : goal.returns-in-Err-Err-clause-altered
+returns-in-Err-Err-clause-altered g c =
+    let mid = c.request.new.state in
+    let requested = subst (λ (f : CallFault). Requests c.args.pid c.args.state.now mid (Err f)) c.in-Err-Err.field-0-is c.in-Err-Err.ensures.requested in
+    unaltered c.refuse.result.altered c.args.state.now.tree c.refuse.new.state.tree c.refuse.ensures.altered (c.refuse.ensures.tree ∙ meant-tree mid _ requested.leaves)
+
+pub returns-clause-altered : goal.returns-clause-altered
+returns-clause-altered g c =
+    let mid = c.request.new.state in
+    let new = c.carry_request.new.state in
+    if-ok c.carry_request.result (λ plain is. altered-around plain.altered c.args.state.now.tree mid.tree new.tree new.tree (meant-tree mid _ c.in-Ok.ensures.requested.leaves) refl is) c.carry_request.ensures.altered

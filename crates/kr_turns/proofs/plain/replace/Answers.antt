@@ -3,9 +3,12 @@ use Rattle.kr_hostview.specs.kr_ops.Meaning.{meaning}
 use Rattle.kr_hostview.proofs.kr_ops.UseLemmas.{sound-of}
 use Rattle.kr_calm.specs.kr_seen.Numbered.{state_numbered}
 use Rattle.kr_execve.specs.Execution.{execution_reach}
+use Rattle.kr_steps.specs.Calls.{nothing_altered}
 use Rattle.kr_turns.specs.Breaking.{nothing_reached}
 use Rattle.kr_steps.specs.kr_stops.Stopped.{nothing_handed}
 use Rattle.kr_turns.specs.declared.plain.CallEnd.TheVariants as end
+use Rattle.kr_turns.specs.declared.plain.Plain.{Plain}
+use Rattle.kr_turns.proofs.AlteredLemmas.{executed-altered}
 use Rattle.kr_turns.proofs.NumberLemmas.{memory-numbered}
 use Rattle.kr_turns.proofs.PlainLemmas.{execution-left, refused-now, refused-rule, replaced-now, replaced-rule}
 use Rattle.kr_turns.proofs.plain.replace.Goals as goal
@@ -28,7 +31,7 @@ returns-in-Replaced-clause-came g c =
     let table = g.P.Places.mounts c.args.places.now in
     let left = c.in-Replaced.ensures (λ e. absurd cc) in
     replaced-now number table c.args.pid c.args.path.now c.args.args c.args.env c.args.state.now c.execute.new.state left.executed.told.0 c.resume.new.state
-    (record { end = end.Replaced; child = None; handed = nothing_handed; reach = c.execute.new.reach; broken = c.rule_of.result })
+    (record { end = end.Replaced; child = None; handed = nothing_handed; reach = c.execute.new.reach; broken = c.rule_of.result; altered = nothing_altered })
     (execution-left number table c.args.pid c.args.path.now c.args.args c.args.env c.args.state.now c.execute.new.state _ left.executed) left.executed.told.1 c.resume.ensures.resumes refl refl refl
 
 pub returns-in-Replaced-clause-reach : goal.returns-in-Replaced-clause-reach
@@ -86,3 +89,15 @@ pub returns-in-Refused-clause-runs : goal.returns-in-Refused-clause-runs
 returns-in-Refused-clause-runs g c = λ calls runs.
     let left = c.in-Refused.ensures (λ e. absurd cc) in
     c.refuse.ensures.runs _ _ _ (record { lasts = left.lasts calls runs.lasts; served = left.served })
+
+pub returns-in-Replaced-clause-altered : goal.returns-in-Replaced-clause-altered
+returns-in-Replaced-clause-altered g c =
+    let plain : Plain = record { end = end.Replaced; child = None; handed = nothing_handed; reach = c.execute.new.reach; broken = None; altered = nothing_altered } in
+    executed-altered (g.P.Places.mounts c.args.places.now) c.args.pid g.P.Places.number c.args.path.now c.args.args c.args.env c.args.state.now c.resume.new.state plain nothing_altered c.requires.caller.may.runs.lasts.lawful.tree
+    (returns-in-Replaced-clause-came g c) refl
+
+pub returns-in-Refused-clause-altered : goal.returns-in-Refused-clause-altered
+returns-in-Refused-clause-altered g c =
+    let plain = c.refuse.result in
+    executed-altered (g.P.Places.mounts c.args.places.now) c.args.pid g.P.Places.number c.args.path.now c.args.args c.args.env c.args.state.now c.refuse.new.state plain plain.altered c.requires.caller.may.runs.lasts.lawful.tree
+    (returns-in-Refused-clause-came g c) c.refuse.ensures.altered

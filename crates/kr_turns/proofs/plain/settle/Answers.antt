@@ -1,5 +1,5 @@
 use Rattle.std.proofs.Common.{◌≡◌, lit<, sym, ◌∙◌}
-use Rattle.law_steady.specs.kr_model.declared.outcome.Outcome.TheVariants as outcome
+use Rattle.kr_steps.specs.kr_model.declared.outcome.Outcome.TheVariants as outcome
 use Rattle.kr_turns.proofs.plain.settle.Goals as goal
 
 pub answer-requires : goal.answer-requires

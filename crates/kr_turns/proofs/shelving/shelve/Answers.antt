@@ -2,7 +2,7 @@ use Rattle.std.proofs.Common.{sym, ap, ◌∙◌}
 use Rattle.kr_steps.specs.rv_mem.Layout.{layout_of}
 use Rattle.kr_steps.specs.rv_mem.Memory.{Memory}
 use Rattle.kr_calm.specs.Shelf.{lacks_shelf_by, shelved_by}
-use Rattle.law_steady.specs.kr_model.State.{Image}
+use Rattle.kr_steps.specs.kr_model.State.{Image}
 use Rattle.kr_hostview.specs.kr_ops.Meaning.{meaning}
 use Rattle.kr_hostview.proofs.kr_ops.OpeningLemmas.{not-living}
 use Rattle.kr_steps.proofs.ComputingLemmas.{changed_at}

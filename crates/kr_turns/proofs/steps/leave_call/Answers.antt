@@ -2,6 +2,7 @@ use Rattle.std.proofs.Common.{lit<}
 use Rattle.std.proofs.lemmas.Result.{on_ok_weaker}
 use Rattle.kr_steps.specs.kr_stops.Watching.{watching}
 use Rattle.kr_turns.specs.Held.{stopped_in}
+use Rattle.kr_turns.proofs.AlteredLemmas.{edited-tree}
 use Rattle.kr_turns.proofs.ApartLemmas.{edited-leaves}
 use Rattle.kr_turns.proofs.MakingLemmas.{exit-made, whatever}
 use Rattle.kr_turns.proofs.steps.leave_call.Goals as goal
@@ -27,3 +28,8 @@ pub returns-clause-others : goal.returns-clause-others
 returns-clause-others g c =
     whatever c.exit.result
     (edited-leaves (stopped_in g.P.Places.number c.args.state.now c.args.pid c.args.handed) (stopped_in g.P.Places.number c.exit.new.state c.args.pid c.args.handed) c.exit.ensures.edits)
+
+pub returns-clause-tree : goal.returns-clause-tree
+returns-clause-tree g c =
+    whatever c.exit.result
+    (edited-tree (stopped_in g.P.Places.number c.args.state.now c.args.pid c.args.handed) (stopped_in g.P.Places.number c.exit.new.state c.args.pid c.args.handed) c.exit.ensures.edits)

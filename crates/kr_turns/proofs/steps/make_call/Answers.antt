@@ -1,5 +1,6 @@
 use Rattle.std.proofs.Common.{◌≡◌, None, ap, lit<, subst, sym, ◌∙◌}
-use Rattle.kr_steps.specs.Calls.{MayCall}
+use Rattle.kr_execve.specs.kr_view.declared.target.Reach.{Reach}
+use Rattle.kr_steps.specs.Calls.{Altered, IsAltered, MayCall}
 use Rattle.kr_calm.specs.kr_seen.Numbered.{state_numbered}
 use Rattle.kr_hostview.specs.kr_ops.Meaning.{meaning}
 use Rattle.kr_hostview.proofs.kr_ops.UseLemmas.{sound-of}
@@ -77,3 +78,10 @@ returns-clause-stays g c =
                 (c.in_ok-bear.ensures.free pid (c.requires.frees.frees (ap can_alter_shape (sym (stays waits).regs) ∙ alters)));
           };
     }
+
+pub returns-clause-altered : goal.returns-clause-altered
+returns-clause-altered g c =
+    subst (λ (a : Altered). IsAltered a c.args.state.now.tree c.plain_call.new.state.tree) (sym c.leave_behind.ensures.altered) c.in_ok-plain.ensures.altered
+
+pub returns-clause-met : goal.returns-clause-met
+returns-clause-met g c = c.leave_behind.ensures.met ∙ ap (λ (r : Reach). r.met_proc) c.in_ok-plain.ensures.reach

@@ -10,6 +10,7 @@ use Rattle.kr_steps.specs.kr_stops.Watching.{watching}
 use Rattle.kr_turns.specs.Making.{machine_of}
 use Rattle.kr_turns.specs.Turn.{with_broken, with_status}
 use Rattle.kr_turns.proofs.AgreeLemmas.{agrees-now, killed-agrees}
+use Rattle.kr_turns.proofs.AlteredLemmas.{killed-both, meant-tree, same-both}
 use Rattle.kr_turns.proofs.ApartLemmas.{killed-leaves, leaves-then}
 use Rattle.kr_turns.proofs.BreakLemmas.{idle-here, killed-here}
 use Rattle.kr_turns.proofs.MakingLemmas.{call_done, computed-others, computed-still, kept-none, killed-now, left-free, stretch-after}
@@ -135,3 +136,17 @@ returns-in_ok-kill-in-Killed-clause-others g c = λ number.
     let new = state_numbered number (meaning c.kill.new.state) in
     leaves-then c.args.pid old mid new (computed-others number c.args.pid c.args.fuel c.args.state.now c.compute.new.state c.in_ok-event.event c.in_ok-event.done c.in_ok-event.ensures.computes)
     (killed-leaves c.args.pid c.in-Killed.signal mid new (killed-now number c.args.pid c.in-Killed.signal c.compute.new.state c.kill.new.state c.in_ok-kill-in-Killed.ensures.ends))
+
+-- ---- the tree
+
+pub returns-in-Next-clause-leaves : goal.returns-in-Next-clause-leaves
+returns-in-Next-clause-leaves g c = same-both c.args.state.now.tree c.compute.new.state.tree (meant-tree c.compute.new.state _ c.in_ok-event.ensures.computes.leaves)
+
+pub returns-in-Call-clause-leaves : goal.returns-in-Call-clause-leaves
+returns-in-Call-clause-leaves g c = same-both c.args.state.now.tree c.compute.new.state.tree (meant-tree c.compute.new.state _ c.in_ok-event.ensures.computes.leaves)
+
+pub returns-in_ok-kill-in-Killed-clause-leaves : goal.returns-in_ok-kill-in-Killed-clause-leaves
+returns-in_ok-kill-in-Killed-clause-leaves g c =
+    let caller = c.requires.caller in
+    let runs = c.in_ok-event.ensures.runs caller.number caller.table caller.calls caller.runs in
+    killed-both c.args.pid c.in-Killed.signal c.args.state.now c.compute.new.state c.kill.new.state runs.lasts.lawful.tree (meant-tree c.compute.new.state _ c.in_ok-event.ensures.computes.leaves) c.in_ok-kill-in-Killed.ensures.ends

@@ -1,8 +1,8 @@
 use Rattle.std.proofs.Common.{◌≡◌, true, false, Some, None, if◌then◌else◌, sym, ap, ◌∙◌}
 use Rattle.kr_execve.specs.kr_tree.declared.place.Host.TheVariants.{Node}
-use Rattle.law_steady.specs.kr_model.Asking.{is_processes_host}
-use Rattle.law_steady.specs.kr_model.Known.{known}
-use Rattle.law_steady.specs.kr_model.State.{image_layout}
+use Rattle.kr_steps.specs.kr_model.Asking.{is_processes_host}
+use Rattle.kr_steps.specs.kr_model.Known.{known}
+use Rattle.kr_steps.specs.kr_model.State.{image_layout}
 use Rattle.kr_hostview.specs.kr_ops.Meaning.{meaning}
 use Rattle.kr_turns.specs.Target.{inode_at}
 use Rattle.kr_turns.proofs.target.inode_at.Goals as goal

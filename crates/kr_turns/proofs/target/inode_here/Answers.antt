@@ -1,8 +1,8 @@
 use Rattle.std.proofs.Common.{ap, ◌∙◌, if◌then◌else◌, w32}
 use Rattle.std.proofs.Math.Facts.{to_z-of_z}
-use Rattle.law_steady.specs.kr_model.Asking.{is_working_directory}
-use Rattle.law_steady.specs.kr_model.Known.{known}
-use Rattle.law_steady.specs.kr_model.State.{image_layout}
+use Rattle.kr_steps.specs.kr_model.Asking.{is_working_directory}
+use Rattle.kr_steps.specs.kr_model.Known.{known}
+use Rattle.kr_steps.specs.kr_model.State.{image_layout}
 use Rattle.kr_hostview.specs.kr_ops.Meaning.{meaning}
 use Rattle.kr_turns.specs.Target.{inode_at, inode_under}
 use Rattle.kr_turns.proofs.target.inode_here.Goals as goal

@@ -1,7 +1,7 @@
 use Rattle.std.proofs.Common.{sym, ap, ◌∙◌}
 use Rattle.std.specs.Option.{option_and_then}
-use Rattle.law_steady.specs.kr_model.Known.{known}
-use Rattle.law_steady.specs.kr_model.State.{image_layout}
+use Rattle.kr_steps.specs.kr_model.Known.{known}
+use Rattle.kr_steps.specs.kr_model.State.{image_layout}
 use Rattle.kr_hostview.specs.kr_ops.Meaning.{meaning}
 use Rattle.kr_turns.specs.Target.{inode_at}
 use Rattle.kr_turns.proofs.target.inode_of_place.Goals as goal

@@ -1,6 +1,6 @@
 use Rattle.std.proofs.Common.{sym, ap, ◌∙◌, w32}
 use Rattle.std.proofs.Math.Facts.{to_z-of_z}
-use Rattle.law_steady.specs.kr_model.Asking.{descriptor_number}
+use Rattle.kr_steps.specs.kr_model.Asking.{descriptor_number}
 use Rattle.kr_hostview.specs.kr_ops.Meaning.{meaning}
 use Rattle.kr_turns.proofs.TargetLemmas.{is-open, negative, not-open}
 use Rattle.kr_turns.proofs.target.inode_under.Goals as goal

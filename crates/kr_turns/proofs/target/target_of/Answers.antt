@@ -1,8 +1,8 @@
 use Rattle.std.proofs.Common.{sym, ap, ◌∙◌}
 use Rattle.std.specs.Option.{option_map_or}
 use Rattle.kr_execve.specs.kr_view.declared.target.Target.{Target}
-use Rattle.law_steady.specs.kr_model.Known.{known}
-use Rattle.law_steady.specs.kr_model.State.{image_layout}
+use Rattle.kr_steps.specs.kr_model.Known.{known}
+use Rattle.kr_steps.specs.kr_model.State.{image_layout}
 use Rattle.kr_hostview.specs.kr_ops.Meaning.{meaning}
 use Rattle.kr_turns.specs.Target.{inode_instead, instead_of}
 use Rattle.kr_turns.proofs.TargetLemmas.{inode_at_place, target-along}

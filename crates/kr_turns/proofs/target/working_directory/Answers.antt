@@ -1,5 +1,5 @@
 use Rattle.std.proofs.Common.{sym, ap}
-use Rattle.law_steady.specs.kr_model.Known.{Caller}
+use Rattle.kr_steps.specs.kr_model.Known.{Caller}
 use Rattle.kr_hostview.proofs.kr_ops.OpeningLemmas.{not-living}
 use Rattle.kr_turns.proofs.TargetLemmas.{known-caller}
 use Rattle.kr_turns.proofs.target.working_directory.Goals as goal

@@ -17,7 +17,7 @@ pub returns-in-Ok-clause-opening : goal.returns-in-Ok-clause-opening
 returns-in-Ok-clause-opening g c =
     let p = passed g.T.Source c.args.tree.now c.open.new.tree g.E.Source c.args.elf.now c.open.new.elf g.I.Source c.args.input.now c.open.new.input
     g.O.Sink c.args.out.now c.report.new.out g.R.Sink c.args.err.now c.report.new.err g.L.Sink c.args.left.now c.report.new.left in
-    run-told c.in-Ok.opened p c.report.ensures (opened_by (map string_bytes c.args.words.now) p.sources) c.in-Ok.ensures.opens
+    run-told c.in-Ok.opened p c.report.result c.report.ensures (opened_by (map string_bytes c.args.words.now) p.sources) c.in-Ok.ensures.opens
 
 pub returns-in-Ok-clause-headline : goal.returns-in-Ok-clause-headline
 returns-in-Ok-clause-headline g c =
@@ -26,7 +26,7 @@ returns-in-Ok-clause-headline g c =
     let words = map string_bytes c.args.words.now in
     let bytes = words-bytes c.args.words.now in
     headline c.openings_agree.ensures words (gave p.sources.tree) (gave p.sources.elf) (gave p.sources.input) bytes ⊥ (read-too c.openings_agree.ensures words (gave p.sources.tree) (gave p.sources.elf) (gave p.sources.input) bytes c.in-Ok.ensures.read)
-    p c.report.result (λ none. absurd none) (run-told c.in-Ok.opened p c.report.ensures (opened_by words p.sources) c.in-Ok.ensures.opens)
+    p c.report.result (λ none. absurd none) (run-told c.in-Ok.opened p c.report.result c.report.ensures (opened_by words p.sources) c.in-Ok.ensures.opens)
 
 pub returns-in-Ok-clause-complete : goal.returns-in-Ok-clause-complete
 returns-in-Ok-clause-complete g c =
@@ -38,49 +38,49 @@ pub returns-in-Ok-clause-ends : goal.returns-in-Ok-clause-ends
 returns-in-Ok-clause-ends g c =
     let p = passed g.T.Source c.args.tree.now c.open.new.tree g.E.Source c.args.elf.now c.open.new.elf g.I.Source c.args.input.now c.open.new.input
     g.O.Sink c.args.out.now c.report.new.out g.R.Sink c.args.err.now c.report.new.err g.L.Sink c.args.left.now c.report.new.left in
-    λ own. ends-told p c.report.result (comes-after c.in-Ok.opened p c.report.ensures) (c.in-Ok.ensures.ends own)
+    λ own. ends-told p c.report.result (comes-after c.in-Ok.opened p c.report.result c.report.ensures) (c.in-Ok.ensures.ends own)
 
 pub returns-in-Ok-clause-refusal : goal.returns-in-Ok-clause-refusal
 returns-in-Ok-clause-refusal g c =
     let p = passed g.T.Source c.args.tree.now c.open.new.tree g.E.Source c.args.elf.now c.open.new.elf g.I.Source c.args.input.now c.open.new.input
     g.O.Sink c.args.out.now c.report.new.out g.R.Sink c.args.err.now c.report.new.err g.L.Sink c.args.left.now c.report.new.left in
-    λ refuses. absurd (refuses-not c.in-Ok.opened p c.report.ensures refuses)
+    λ refuses. absurd (refuses-not c.in-Ok.opened p c.report.result c.report.ensures refuses)
 
 pub returns-in-Ok-clause-out_untouched : goal.returns-in-Ok-clause-out_untouched
 returns-in-Ok-clause-out_untouched g c =
     let p = passed g.T.Source c.args.tree.now c.open.new.tree g.E.Source c.args.elf.now c.open.new.elf g.I.Source c.args.input.now c.open.new.input
     g.O.Sink c.args.out.now c.report.new.out g.R.Sink c.args.err.now c.report.new.err g.L.Sink c.args.left.now c.report.new.left in
-    λ before. absurd (comes-after c.in-Ok.opened p c.report.ensures before)
+    λ before. absurd (comes-after c.in-Ok.opened p c.report.result c.report.ensures before)
 
 pub returns-in-Ok-clause-err_untouched : goal.returns-in-Ok-clause-err_untouched
 returns-in-Ok-clause-err_untouched g c =
     let p = passed g.T.Source c.args.tree.now c.open.new.tree g.E.Source c.args.elf.now c.open.new.elf g.I.Source c.args.input.now c.open.new.input
     g.O.Sink c.args.out.now c.report.new.out g.R.Sink c.args.err.now c.report.new.err g.L.Sink c.args.left.now c.report.new.left in
-    λ before. absurd (comes-after c.in-Ok.opened p c.report.ensures before)
+    λ before. absurd (comes-after c.in-Ok.opened p c.report.result c.report.ensures before)
 
 pub returns-in-Ok-clause-left_untouched : goal.returns-in-Ok-clause-left_untouched
 returns-in-Ok-clause-left_untouched g c =
     let p = passed g.T.Source c.args.tree.now c.open.new.tree g.E.Source c.args.elf.now c.open.new.elf g.I.Source c.args.input.now c.open.new.input
     g.O.Sink c.args.out.now c.report.new.out g.R.Sink c.args.err.now c.report.new.err g.L.Sink c.args.left.now c.report.new.left in
-    λ before. absurd (comes-after c.in-Ok.opened p c.report.ensures before)
+    λ before. absurd (comes-after c.in-Ok.opened p c.report.result c.report.ensures before)
 
 pub returns-in-Ok-clause-before_elf : goal.returns-in-Ok-clause-before_elf
 returns-in-Ok-clause-before_elf g c =
     let p = passed g.T.Source c.args.tree.now c.open.new.tree g.E.Source c.args.elf.now c.open.new.elf g.I.Source c.args.input.now c.open.new.input
     g.O.Sink c.args.out.now c.report.new.out g.R.Sink c.args.err.now c.report.new.err g.L.Sink c.args.left.now c.report.new.left in
-    λ before. absurd (read-elf c.in-Ok.opened p c.report.ensures before)
+    λ before. absurd (read-elf c.in-Ok.opened p c.report.result c.report.ensures before)
 
 pub returns-in-Ok-clause-before_input : goal.returns-in-Ok-clause-before_input
 returns-in-Ok-clause-before_input g c =
     let p = passed g.T.Source c.args.tree.now c.open.new.tree g.E.Source c.args.elf.now c.open.new.elf g.I.Source c.args.input.now c.open.new.input
     g.O.Sink c.args.out.now c.report.new.out g.R.Sink c.args.err.now c.report.new.err g.L.Sink c.args.left.now c.report.new.left in
-    λ before. absurd (read-input c.in-Ok.opened p c.report.ensures before)
+    λ before. absurd (read-input c.in-Ok.opened p c.report.result c.report.ensures before)
 
 pub returns-in-Ok-clause-sinks : goal.returns-in-Ok-clause-sinks
 returns-in-Ok-clause-sinks g c =
     let p = passed g.T.Source c.args.tree.now c.open.new.tree g.E.Source c.args.elf.now c.open.new.elf g.I.Source c.args.input.now c.open.new.input
     g.O.Sink c.args.out.now c.report.new.out g.R.Sink c.args.err.now c.report.new.err g.L.Sink c.args.left.now c.report.new.left in
-    no-source-named c.in-Ok.opened p c.report.ensures
+    no-source-named c.in-Ok.opened p c.report.result c.report.ensures
 
 -- ---- a refusal, or an early end
 

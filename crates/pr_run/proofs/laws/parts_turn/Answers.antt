@@ -1,5 +1,5 @@
-use Rattle.kr_core.specs.kr_stops.Watching.{watching}
-use Rattle.kr_core.proofs.kr_turns.JoinLemmas.{turns-are-functions}
+use Rattle.pt_tracer.specs.kr_stops.Watching.{watching}
+use Rattle.kr_loose.proofs.kr_turns.JoinLemmas.{turns-are-functions}
 use Rattle.pr_run.proofs.laws.parts_turn.Goals as goal
 
 pub returns : goal.returns

@@ -3,10 +3,10 @@ use Rattle.std.specs.Prelude.{Err}
 use Rattle.std.specs.Option.{option_map}
 use Rattle.pr_sources.specs.pr_io.Drawn.{received}
 use Rattle.pr_sources.specs.pr_io.Moves.{Gets}
-use Rattle.kr_core.specs.Kernel.{machine}
+use Rattle.kr_loose.specs.kr_core.Kernel.{machine}
 use Rattle.pr_sources.specs.kr_text.Canonical.{canonical}
-use Rattle.kr_core.specs.kr_turns.Turn.{Machine}
-use Rattle.kr_core.specs.kr_turns.kr_calm.Calm.{rule_number}
+use Rattle.kr_loose.specs.kr_turns.Turn.{Machine}
+use Rattle.kr_loose.specs.kr_calm.Calm.{rule_number}
 use Rattle.pr_run.specs.Report.{calm_told, errs, report_of}
 use Rattle.pr_run.specs.Puts.{PutsCalm, PutsListing, PutsTurns}
 use Rattle.pr_run.specs.Slots.{run_of}

@@ -1,9 +1,10 @@
-use Rattle.std.proofs.Common.{◌≡◌, ◌+◌, ◌-◌, ◌<◌, ◌^◌, ◌∙◌, [], ap, arith, lit<, subst, sym}
+use Rattle.std.proofs.Common.{◌≡◌, ◌+◌, ◌-◌, ◌<◌, ◌^◌, ◌∙◌, [], not, true, ap, arith, lit<, subst, sym}
 use Rattle.pt_tracer.specs.pt_canon.Canon.{texts_by}
 use Rattle.pt_tracer.specs.pt_canon.Remembering.{Walking}
+use Rattle.pt_tracer.specs.pt_canon.TextWalk.{TextSurroundings}
 use Rattle.pt_tracer.proofs.pt_canon.RememberLemmas.{nothing_agrees}
 use Rattle.pt_first.specs.FirstPeeks.{first_peeked}
-use Rattle.pt_first.specs.GuestStart.{IsBegun, guest_start}
+use Rattle.pt_first.specs.GuestStart.{IsBegunNoting, guest_start, start_unmet}
 use Rattle.pr_start.proofs.traced.first_found.Goals as goal
 
 pub pause-requires : goal.pause-requires
@@ -21,7 +22,8 @@ resume-requires c =
 
 pub returns-clause-begins : goal.returns-clause-begins
 returns-clause-begins c =
-    subst (λ (w : Walking). IsBegun (guest_start (texts_by w.table (first_peeked c.args.tree.now c.args.user) c.args.tags.now) c.args.launch) c.args.tags.now c.first-found.new.tags c.first-found.result) c.pause.ensures
+    let texts : Walking → TextSurroundings = λ w. texts_by w.table (first_peeked c.args.tree.now c.args.user) c.args.tags.now in
+    subst (λ (w : Walking). IsBegunNoting (not (start_unmet (texts w) c.args.launch true)) (guest_start (texts w) c.args.launch) c.args.tags.now c.first-found.new.tags c.first-found.result) c.pause.ensures
     c.first-found.ensures.begins
 
 pub returns-clause-walker : goal.returns-clause-walker

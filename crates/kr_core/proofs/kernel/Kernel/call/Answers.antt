@@ -1,5 +1,5 @@
-use Rattle.std.proofs.Common.{◌≡◌, ◌<◌, ◌+◌, List, suc, true, ap, arith, lit<, refl, subst, sym, ◌∙◌}
-use Rattle.std.specs.Prelude.{IsSome, ◌^◌}
+use Rattle.std.proofs.Common.{◌≡◌, ◌<◌, ◌≤◌, ◌+◌, List, suc, true, ap, arith, lit<, refl, subst, sym, ◌∙◌}
+use Rattle.std.specs.Prelude.{◌||◌, IsSome, ◌^◌}
 use Rattle.kr_turns.proofs.MakingLemmas.{lives-meant}
 use Rattle.kr_turns.specs.CallSteps.{IsCarriedOut}
 use Rattle.kr_turns.specs.Making.{machine_of}
@@ -9,15 +9,19 @@ use Rattle.kr_turns.specs.kr_ops.Meaning.{meaning}
 use Rattle.kr_turns.specs.kr_seen.Numbered.{state_numbered}
 use Rattle.kr_turns.specs.kr_stops.Watching.{watching}
 use Rattle.kr_core.specs.Between.{begun_at, between_of}
-use Rattle.kr_core.specs.Kernel.{Kernel}
+use Rattle.kr_core.specs.Counting.{IsCounted}
+use Rattle.kr_core.specs.Kernel.{Kernel, machine}
 use Rattle.kr_core.specs.Standing.{AreStanding}
 use Rattle.kr_core.specs.Stepping.{BornRun, HasCalled}
 use Rattle.kr_core.specs.declared.paused.Between.TheVariants.{Entered}
 use Rattle.kr_core.specs.declared.paused.Paused.{Paused}
 use Rattle.kr_core.specs.declared.paused.Phase.TheVariants as phase
+use Rattle.kr_core.proofs.CountingLemmas.{call-counts, raised-within}
 use Rattle.kr_core.proofs.PausedLemmas.{entered-at, entered-keeps}
 use Rattle.kr_core.proofs.StandingLemmas.{stand-called}
 use Rattle.kr_core.proofs.SteppingLemmas.{born-run, has-phase, left-at}
+use Rattle.kr_turns.specs.Breaking.{nothing_reached}
+use Rattle.kr_turns.specs.PlainCall.{plain_reach}
 use Rattle.kr_core.proofs.kernel.Kernel.call.Goals as goal
 
 pub unreachable-requires : goal.unreachable-requires
@@ -66,6 +70,10 @@ invariant_of-self-2 g c =
     record {
       named = c.self.invariant.named;
       few = c.self.invariant.few;
+      counted = (
+        subst (λ n. n ≤ inside.calls + 1) (sym c.raised-shape.ensures) (raised-within inside.shape_changes inside.calls c.in_ok-made.made.altered.shape c.self.invariant.counted.0),
+        subst (λ n. n ≤ inside.calls + 1) (sym c.raised-bytes.ensures) (raised-within inside.byte_changes inside.calls c.in_ok-made.made.altered.bytes c.self.invariant.counted.1),
+      );
       runs = λ whole.
           let more : suc inside.calls ≡ inside.calls + 1 = omega arith in
           subst (λ n. Runs {M = g.row.MARKED} number (g.P.Places.mounts inside.places) n new) more c.in_ok-made.ensures.runs;
@@ -94,6 +102,9 @@ returns-clause-called g c =
       broken = c.first_of-self-inside.result;
       turns = inside.turns;
       calls = inside.calls + 1;
+      shape_changes = c.raised-shape.result;
+      byte_changes = c.raised-bytes.result;
+      met = c.either-self-inside.result;
       paused = c.pause_after.new.paused.items;
       whole = true;
     } in
@@ -118,6 +129,9 @@ returns-clause-child g c =
       broken = c.first_of-self-inside.result;
       turns = inside.turns;
       calls = inside.calls + 1;
+      shape_changes = c.raised-shape.result;
+      byte_changes = c.raised-bytes.result;
+      met = c.either-self-inside.result;
       paused = c.pause_after.new.paused.items;
       whole = true;
     } in
@@ -140,7 +154,48 @@ returns-clause-phase g c =
       broken = c.first_of-self-inside.result;
       turns = inside.turns;
       calls = inside.calls + 1;
+      shape_changes = c.raised-shape.result;
+      byte_changes = c.raised-bytes.result;
+      met = c.either-self-inside.result;
       paused = c.pause_after.new.paused.items;
       whole = true;
     } in
     left-at number c.args.pid new inside.paused.items c.in-Some.begun stood c.in_ok-made.made.after c.in_ok-pause_after.ensures c.in_ok-made.ensures.stays.lives
+
+pub raised-shape-requires : goal.raised-shape-requires
+raised-shape-requires g c =
+    let few : c.self.inside.calls < 2 ^ 31 = subst (λ n. n < 2 ^ 31) (sym (ap (λ k. k.calls) c.self.view_is)) c.requires.few in
+    let within : c.self.inside.shape_changes ≤ c.self.inside.calls = c.self.invariant.counted.0 in
+    omega (arith, few, within)
+
+pub raised-bytes-requires : goal.raised-bytes-requires
+raised-bytes-requires g c =
+    let few : c.self.inside.calls < 2 ^ 31 = subst (λ n. n < 2 ^ 31) (sym (ap (λ k. k.calls) c.self.view_is)) c.requires.few in
+    let within : c.self.inside.byte_changes ≤ c.self.inside.calls = c.self.invariant.counted.1 in
+    omega (arith, few, within)
+
+pub returns-clause-counted : goal.returns-clause-counted
+returns-clause-counted g c =
+    let number = g.P.Places.number in
+    let inside = c.self.inside in
+    let new : Kernel g.row.P.Denot g.row.S.Denot g.row.P-Mount.Denot g.row.MARKED = record {
+      places = inside.places;
+      stops = c.make_call.new.stops;
+      state = c.make_call.new.state;
+      status = c.status_after-self-inside.result;
+      broken = c.first_of-self-inside.result;
+      turns = inside.turns;
+      calls = inside.calls + 1;
+      shape_changes = c.raised-shape.result;
+      byte_changes = c.raised-bytes.result;
+      met = c.either-self-inside.result;
+      paused = c.pause_after.new.paused.items;
+      whole = true;
+    } in
+    subst (λ (k : Kernel g.row.P.Denot g.row.S.Denot g.row.P-Mount.Denot g.row.MARKED). IsCounted number k new) c.self.view_is
+    (call-counts number _ new c.in_ok-made.made.altered c.in_ok-made.ensures.altered c.raised-shape.ensures c.raised-bytes.ensures)
+
+pub returns-clause-met : goal.returns-clause-met
+returns-clause-met g c =
+    c.either-self-inside.ensures ∙ ap (λ b. c.self.inside.met || b) c.in_ok-made.ensures.met
+    ∙ ap (λ (k : Kernel g.row.P.Denot g.row.S.Denot g.row.P-Mount.Denot g.row.MARKED). k.met || (plain_reach (g.P.Places.mounts k.places) c.args.pid (machine g.P.Places.number k).state nothing_reached).met_proc) c.self.view_is

@@ -1,13 +1,15 @@
 use Rattle.std.proofs.Common.{List, true, ap, lit<, refl, subst, sym, ◌∙◌}
-use Rattle.std.specs.Prelude.{IsSome}
+use Rattle.std.specs.Prelude.{◌||◌, IsSome}
+use Rattle.kr_turns.proofs.AlteredLemmas.{same-both}
 use Rattle.kr_turns.proofs.MakingLemmas.{lives-meant, lives-numbered}
 use Rattle.kr_turns.proofs.kr_ops.UseLemmas.{sound-of}
-use Rattle.kr_turns.specs.Turn.{Tally}
+use Rattle.kr_turns.specs.Turn.{Tally, calling}
 use Rattle.kr_turns.specs.kr_ops.Meaning.{meaning}
 use Rattle.kr_turns.specs.kr_seen.Numbered.{state_numbered}
 use Rattle.kr_turns.specs.kr_stops.Watching.{watching}
 use Rattle.kr_core.specs.Between.{between_of, paused_at, phase_at}
-use Rattle.kr_core.specs.Kernel.{Kernel}
+use Rattle.kr_core.specs.Counting.{IsCounted}
+use Rattle.kr_core.specs.Kernel.{Kernel, machine}
 use Rattle.kr_core.specs.Moving.{Entry}
 use Rattle.kr_core.specs.Standing.{AreStanding}
 use Rattle.kr_core.specs.Stepping.{HasMoved}
@@ -15,6 +17,7 @@ use Rattle.kr_core.specs.declared.paused.Begun.{Begun}
 use Rattle.kr_core.specs.declared.paused.Between.TheVariants.{Entered}
 use Rattle.kr_core.specs.declared.paused.Paused.{Paused}
 use Rattle.kr_core.specs.declared.paused.Phase.TheVariants as phase
+use Rattle.kr_core.proofs.CountingLemmas.{left-counts}
 use Rattle.kr_core.proofs.PausedLemmas.{call-at, paused-own}
 use Rattle.kr_core.proofs.StandingLemmas.{stand-paused}
 use Rattle.kr_core.proofs.SteppingLemmas.{enter-moves, has-phase, phase-is}
@@ -43,6 +46,7 @@ pub invariant_of-self-in_err-pause : goal.invariant_of-self-in_err-pause
 invariant_of-self-in_err-pause g c = record {
   named = c.self.invariant.named;
   few = c.self.invariant.few;
+  counted = c.self.invariant.counted;
   runs = λ whole. absurd cc;
   agreement = λ whole. absurd cc;
   standing = λ whole. absurd cc;
@@ -54,10 +58,11 @@ invariant_of-self-2 g c =
     let inside = c.self.inside in
     let before = ap (λ k. k.whole) c.self.view_is ∙ c.requires.whole in
     let new = c.enter_call.new.state in
-    let begun : Begun = record { no_shelf = c.in_ok-no_shelf.no_shelf; exec = c.calls_execve-exec.result } in
+    let begun : Begun = record { no_shelf = c.in_ok-no_shelf.field-0.no_shelf; exec = c.calls_execve-exec.result } in
     record {
       named = c.self.invariant.named;
       few = c.self.invariant.few;
+      counted = c.self.invariant.counted;
       runs = λ whole. c.in_ok-no_shelf.ensures.stands.runs;
       agreement = λ whole. c.in_ok-no_shelf.ensures.agrees;
       standing = λ whole.
@@ -83,6 +88,9 @@ returns-clause-moves g c = λ fuel.
       broken = inside.broken;
       turns = inside.turns;
       calls = inside.calls;
+      shape_changes = inside.shape_changes;
+      byte_changes = inside.byte_changes;
+      met = c.either-self-inside.result;
       paused = c.pause.new.paused.items;
       whole = true;
     } in
@@ -102,8 +110,37 @@ returns-clause-phase g c =
       broken = inside.broken;
       turns = inside.turns;
       calls = inside.calls;
+      shape_changes = inside.shape_changes;
+      byte_changes = inside.byte_changes;
+      met = c.either-self-inside.result;
       paused = c.pause.new.paused.items;
       whole = true;
     } in
     phase-is number c.args.pid new (lives-numbered number c.args.pid c.enter_call.new.state c.in_ok-no_shelf.ensures.stands.lives) phase.Entered
-    (ap phase_at (ap (between_of c.args.pid) c.in_ok-pause.ensures ∙ paused-own c.args.pid inside.paused.items (Entered (record { no_shelf = c.in_ok-no_shelf.no_shelf; exec = c.calls_execve-exec.result }))))
+    (ap phase_at (ap (between_of c.args.pid) c.in_ok-pause.ensures ∙ paused-own c.args.pid inside.paused.items (Entered (record { no_shelf = c.in_ok-no_shelf.field-0.no_shelf; exec = c.calls_execve-exec.result }))))
+
+pub returns-clause-counted : goal.returns-clause-counted
+returns-clause-counted g c =
+    let number = g.P.Places.number in
+    let inside = c.self.inside in
+    let new : Kernel g.row.P.Denot g.row.S.Denot g.row.P-Mount.Denot g.row.MARKED = record {
+      places = inside.places;
+      stops = c.enter_call.new.stops;
+      state = c.enter_call.new.state;
+      status = inside.status;
+      broken = inside.broken;
+      turns = inside.turns;
+      calls = inside.calls;
+      shape_changes = inside.shape_changes;
+      byte_changes = inside.byte_changes;
+      met = c.either-self-inside.result;
+      paused = c.pause.new.paused.items;
+      whole = true;
+    } in
+    subst (λ (k : Kernel g.row.P.Denot g.row.S.Denot g.row.P-Mount.Denot g.row.MARKED). IsCounted number k new) c.self.view_is
+    (left-counts number _ new (same-both inside.state.tree c.enter_call.new.state.tree c.in_ok-no_shelf.ensures.tree) refl refl)
+
+pub returns-clause-met : goal.returns-clause-met
+returns-clause-met g c =
+    c.either-self-inside.ensures ∙ ap (λ b. c.self.inside.met || b) c.in_ok-no_shelf.ensures.met
+    ∙ ap (λ (k : Kernel g.row.P.Denot g.row.S.Denot g.row.P-Mount.Denot g.row.MARKED). k.met || g.S.Stops.asks k.stops (calling g.row.MARKED c.args.pid (machine g.P.Places.number k).state)) c.self.view_is

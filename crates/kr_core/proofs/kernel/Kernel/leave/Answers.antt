@@ -1,17 +1,20 @@
 use Rattle.std.proofs.Common.{List, true, ap, lit<, refl, subst, sym, ◌∙◌}
 use Rattle.std.specs.Prelude.{IsSome}
+use Rattle.kr_turns.proofs.AlteredLemmas.{same-both}
 use Rattle.kr_turns.proofs.MakingLemmas.{lives-meant, lives-numbered}
 use Rattle.kr_turns.specs.Turn.{Tally}
 use Rattle.kr_turns.specs.kr_ops.Meaning.{meaning}
 use Rattle.kr_turns.specs.kr_seen.Numbered.{state_numbered}
 use Rattle.kr_turns.specs.kr_stops.Watching.{watching}
 use Rattle.kr_core.specs.Between.{between_of, handed_at, phase_at}
+use Rattle.kr_core.specs.Counting.{IsCounted}
 use Rattle.kr_core.specs.Kernel.{Kernel}
 use Rattle.kr_core.specs.Moving.{Exit}
 use Rattle.kr_core.specs.Standing.{AreStanding}
 use Rattle.kr_core.specs.Stepping.{HasMoved}
 use Rattle.kr_core.specs.declared.paused.Paused.{Paused}
 use Rattle.kr_core.specs.declared.paused.Phase.TheVariants as phase
+use Rattle.kr_core.proofs.CountingLemmas.{left-counts}
 use Rattle.kr_core.proofs.PausedLemmas.{done-at, done-keeps, run-own}
 use Rattle.kr_core.proofs.StandingLemmas.{stand-run}
 use Rattle.kr_core.proofs.SteppingLemmas.{has-phase, leave-moves, phase-is}
@@ -40,6 +43,7 @@ invariant_of-self-2 g c =
     record {
       named = c.self.invariant.named;
       few = c.self.invariant.few;
+      counted = c.self.invariant.counted;
       runs = λ whole. c.in_ok-leave_call.ensures.stands.runs;
       agreement = λ whole. c.in_ok-leave_call.ensures.agrees;
       standing = λ whole.
@@ -64,6 +68,9 @@ returns-clause-moves g c = λ fuel.
       broken = inside.broken;
       turns = inside.turns;
       calls = inside.calls;
+      shape_changes = inside.shape_changes;
+      byte_changes = inside.byte_changes;
+      met = inside.met;
       paused = c.let_run.new.paused.items;
       whole = true;
     } in
@@ -83,8 +90,35 @@ returns-clause-phase g c =
       broken = inside.broken;
       turns = inside.turns;
       calls = inside.calls;
+      shape_changes = inside.shape_changes;
+      byte_changes = inside.byte_changes;
+      met = inside.met;
       paused = c.let_run.new.paused.items;
       whole = true;
     } in
     phase-is number c.args.pid new (lives-numbered number c.args.pid c.leave_call.new.state c.in_ok-leave_call.ensures.stands.lives) phase.Running
     (ap phase_at (ap (between_of c.args.pid) c.let_run.ensures ∙ run-own c.args.pid inside.paused.items))
+
+pub returns-clause-counted : goal.returns-clause-counted
+returns-clause-counted g c =
+    let number = g.P.Places.number in
+    let inside = c.self.inside in
+    let new : Kernel g.row.P.Denot g.row.S.Denot g.row.P-Mount.Denot g.row.MARKED = record {
+      places = inside.places;
+      stops = c.leave_call.new.stops;
+      state = c.leave_call.new.state;
+      status = inside.status;
+      broken = inside.broken;
+      turns = inside.turns;
+      calls = inside.calls;
+      shape_changes = inside.shape_changes;
+      byte_changes = inside.byte_changes;
+      met = inside.met;
+      paused = c.let_run.new.paused.items;
+      whole = true;
+    } in
+    subst (λ (k : Kernel g.row.P.Denot g.row.S.Denot g.row.P-Mount.Denot g.row.MARKED). IsCounted number k new) c.self.view_is
+    (left-counts number _ new (same-both inside.state.tree c.leave_call.new.state.tree c.in_ok-leave_call.ensures.tree) refl refl)
+
+pub returns-clause-met : goal.returns-clause-met
+returns-clause-met g c = ap (λ (k : Kernel g.row.P.Denot g.row.S.Denot g.row.P-Mount.Denot g.row.MARKED). k.met) c.self.view_is

@@ -10,6 +10,7 @@ use Rattle.kr_turns.specs.kr_seen.Numbered.{state_numbered}
 use Rattle.kr_turns.specs.kr_stops.Watching.{watching}
 use Rattle.kr_turns.specs.rv_cpu.Run.{ran}
 use Rattle.kr_core.specs.Between.{between_of, phase_at}
+use Rattle.kr_core.specs.Counting.{IsCounted}
 use Rattle.kr_core.specs.Kernel.{Kernel}
 use Rattle.kr_core.specs.Moving.{computing, paused_by}
 use Rattle.kr_core.specs.Standing.{AreStanding}
@@ -17,6 +18,7 @@ use Rattle.kr_core.specs.Stepping.{HasRunFor}
 use Rattle.kr_core.specs.declared.paused.Between.TheVariants.{AtCall}
 use Rattle.kr_core.specs.declared.paused.Paused.{Paused}
 use Rattle.kr_core.specs.declared.paused.Phase.TheVariants as phase
+use Rattle.kr_core.proofs.CountingLemmas.{left-counts}
 use Rattle.kr_core.proofs.PausedLemmas.{paused-own, running-at}
 use Rattle.kr_core.proofs.StandingLemmas.{stand-halted}
 use Rattle.kr_core.proofs.SteppingLemmas.{has-phase, phase-is, stretch-lives}
@@ -50,6 +52,7 @@ invariant_of-self-2 g c =
     record {
       named = c.self.invariant.named;
       few = c.self.invariant.few;
+      counted = c.self.invariant.counted;
       runs = λ whole. c.in_ok-told.ensures.runs number (g.P.Places.mounts inside.places) inside.calls (c.self.invariant.runs before);
       agreement = λ whole. c.in_ok-told.ensures.agrees;
       standing = λ whole.
@@ -76,6 +79,9 @@ returns-clause-runs g c =
       broken = c.first_of-self-inside.result;
       turns = inside.turns;
       calls = inside.calls;
+      shape_changes = inside.shape_changes;
+      byte_changes = inside.byte_changes;
+      met = inside.met;
       paused = c.pause_by.new.paused.items;
       whole = true;
     } in
@@ -100,9 +106,36 @@ returns-clause-phase g c = λ halted.
       broken = c.first_of-self-inside.result;
       turns = inside.turns;
       calls = inside.calls;
+      shape_changes = inside.shape_changes;
+      byte_changes = inside.byte_changes;
+      met = inside.met;
       paused = c.pause_by.new.paused.items;
       whole = true;
     } in
     let lives = stretch-lives (watching g.S.Stops.enters g.S.Stops.exits g.S.Stops.bears g.S.Stops.forgets) number _ c.args.pid inside.state inside.stops c.run_for.new.state c.run_for.new.stops told (c.in_ok-told.ensures.stretch number) at.own at.lives halted in
     phase-is number c.args.pid new lives phase.AtCall
     (ap phase_at (ap (between_of c.args.pid) (c.in_ok-pause_by.ensures ∙ ap (λ (h : Halt). paused_by c.args.pid h inside.paused.items) halted) ∙ paused-own c.args.pid inside.paused.items AtCall))
+
+pub returns-clause-counted : goal.returns-clause-counted
+returns-clause-counted g c =
+    let number = g.P.Places.number in
+    let inside = c.self.inside in
+    let new : Kernel g.row.P.Denot g.row.S.Denot g.row.P-Mount.Denot g.row.MARKED = record {
+      places = inside.places;
+      stops = c.run_for.new.stops;
+      state = c.run_for.new.state;
+      status = c.status_after-self-inside.result;
+      broken = c.first_of-self-inside.result;
+      turns = inside.turns;
+      calls = inside.calls;
+      shape_changes = inside.shape_changes;
+      byte_changes = inside.byte_changes;
+      met = inside.met;
+      paused = c.pause_by.new.paused.items;
+      whole = true;
+    } in
+    subst (λ (k : Kernel g.row.P.Denot g.row.S.Denot g.row.P-Mount.Denot g.row.MARKED). IsCounted number k new) c.self.view_is
+    (left-counts number _ new c.in_ok-told.ensures.leaves refl refl)
+
+pub returns-clause-met : goal.returns-clause-met
+returns-clause-met g c = ap (λ (k : Kernel g.row.P.Denot g.row.S.Denot g.row.P-Mount.Denot g.row.MARKED). k.met) c.self.view_is

@@ -17,6 +17,7 @@ invariant_of-self g c =
     record {
       named = c.self.invariant.named;
       few = c.self.invariant.few;
+      counted = c.self.invariant.counted;
       runs = c.self.invariant.runs;
       agreement = c.self.invariant.agreement;
       standing = λ whole.
@@ -35,8 +36,11 @@ returns g c =
       broken = inside.broken;
       turns = inside.turns;
       calls = inside.calls;
+      shape_changes = inside.shape_changes;
+      byte_changes = inside.byte_changes;
+      met = inside.met;
       paused = c.let_run.new.paused.items;
       whole = inside.whole;
     } in
     subst (λ (k : Kernel g.row.P.Denot g.row.S.Denot g.row.P-Mount.Denot g.row.MARKED). RunsAgain g.P.Places.number c.args.pid k new) c.self.view_is
-    (record { stays = refl; paused = c.let_run.ensures; calls = refl; places = refl; turns = refl; whole = refl })
+    (record { stays = refl; paused = c.let_run.ensures; calls = refl; met = refl; places = refl; turns = refl; whole = refl })

@@ -1,3 +1,4 @@
+use Rattle.std.proofs.Common.{arith}
 use Rattle.kr_core.proofs.StandingLemmas.{none-standing}
 use Rattle.kr_core.proofs.StartLemmas.{start-agrees}
 use Rattle.kr_core.proofs.kernel.Kernel.start_judged.Goals as goal
@@ -6,6 +7,7 @@ pub invariant_of-kernel : goal.invariant_of-kernel
 invariant_of-kernel g c = record {
   named = c.requires.named;
   few = c.requires.few;
+  counted = (omega arith, omega arith);
   runs = λ whole. c.in-Ok.ensures.runs;
   agreement = λ whole.
       start-agrees g.S.Stops.agrees g.met.S.Stops.lasts_with_shape g.P.Places.number (g.P.Places.mounts c.args.places) c.args.tree c.args.user c.args.input c.args.first c.in-Ok.started.state c.args.stops

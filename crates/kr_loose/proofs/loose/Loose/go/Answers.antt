@@ -1,9 +1,7 @@
 use Rattle.std.proofs.Common.{rules, Some, ap, sym, ◌∙◌}
 use Rattle.std.proofs.lemmas.Result.{on_ok_weaker}
-use Rattle.kr_core.specs.Moving.{Entry, Exit}
-use Rattle.kr_core.specs.kr_turns.kr_stops.Watching.{watching}
 use Rattle.kr_core.specs.declared.paused.Phase.{Phase}
-use Rattle.kr_loose.proofs.GoingLemmas.{gone, has-phase}
+use Rattle.kr_loose.proofs.GoingLemmas.{has-phase}
 use Rattle.kr_loose.proofs.loose.Loose.go.Goals as goal
 
 pub unreachable-requires : goal.unreachable-requires
@@ -22,14 +20,10 @@ pub leave-requires : goal.leave-requires
 leave-requires g c = (search rules, (c.requires.whole, sym c.phase.ensures ∙ c.in-Some.is ∙ ap (λ (next : Phase). Some next) c.in-Done.is))
 
 pub returns-in-AtCall-clause-goes : goal.returns-in-AtCall-clause-goes
-returns-in-AtCall-clause-goes g c =
-    let w = watching g.S.Stops.enters g.S.Stops.exits g.S.Stops.bears g.S.Stops.forgets in
-    on_ok_weaker c.enter.result (λ moves. gone g.P.Places.number w _ c.args.fuel c.args.pid Entry _ c.enter.new.self (moves c.args.fuel)) c.enter.ensures.moves
+returns-in-AtCall-clause-goes g c = on_ok_weaker c.enter.result (λ goes. goes c.args.fuel) c.enter.ensures.goes
 
 pub returns-in-Entered-clause-goes : goal.returns-in-Entered-clause-goes
 returns-in-Entered-clause-goes g c = on_ok_weaker c.call.result (λ goes. goes c.args.fuel) c.call.ensures.goes
 
 pub returns-in-Done-clause-goes : goal.returns-in-Done-clause-goes
-returns-in-Done-clause-goes g c =
-    let w = watching g.S.Stops.enters g.S.Stops.exits g.S.Stops.bears g.S.Stops.forgets in
-    on_ok_weaker c.leave.result (λ moves. gone g.P.Places.number w _ c.args.fuel c.args.pid Exit _ c.leave.new.self (moves c.args.fuel)) c.leave.ensures.moves
+returns-in-Done-clause-goes g c = on_ok_weaker c.leave.result (λ goes. goes c.args.fuel) c.leave.ensures.goes

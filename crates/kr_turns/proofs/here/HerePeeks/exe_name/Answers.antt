@@ -17,6 +17,7 @@ same-self g c = λ j. record {
   pid = c.self.inside.pid;
   handed = c.self.inside.handed;
   calls = c.self.inside.calls;
+  unmet = c.self.inside.unmet;
   texts = ∥∥₁_prop c.self-1.given.0 c.self.inside.texts j;
 }
 

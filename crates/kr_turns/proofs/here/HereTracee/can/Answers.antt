@@ -1,6 +1,6 @@
 use Rattle.std.proofs.Common.{ap, sym, ◌∙◌}
 use Rattle.kr_steps.specs.rv_mem.Pages.{allows_all}
-use Rattle.law_steady.specs.kr_model.State.{Image}
+use Rattle.kr_steps.specs.kr_model.State.{Image}
 use Rattle.kr_steps.specs.kr_stops.Editing.{memory_at}
 use Rattle.kr_turns.specs.Held.{Held, stopped_of}
 use Rattle.kr_turns.proofs.HereLemmas.{image-numbered}

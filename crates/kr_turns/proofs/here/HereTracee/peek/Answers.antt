@@ -3,7 +3,7 @@ use Rattle.std.specs.Prelude.{IsOk, IsTrue, OnOk, ◌↔◌}
 use Rattle.std.proofs.lemmas.Result.{on_ok_weaker}
 use Rattle.kr_steps.specs.rv_mem.Memory.{Memory, after_read}
 use Rattle.kr_steps.specs.rv_mem.Pages.{allows_all, bytes_from}
-use Rattle.law_steady.specs.kr_model.State.{Image}
+use Rattle.kr_steps.specs.kr_model.State.{Image}
 use Rattle.kr_hostview.specs.kr_ops.Meaning.{meaning}
 use Rattle.kr_steps.specs.kr_stops.Editing.{after_peek, memory_at}
 use Rattle.kr_turns.specs.Held.{Held, stopped_of}

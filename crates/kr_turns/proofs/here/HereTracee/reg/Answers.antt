@@ -1,5 +1,5 @@
 use Rattle.std.proofs.Common.{get_or, ap, sym, ◌∙◌}
-use Rattle.law_steady.specs.kr_model.State.{Image}
+use Rattle.kr_steps.specs.kr_model.State.{Image}
 use Rattle.kr_steps.specs.kr_stops.Editing.{register_at}
 use Rattle.kr_turns.specs.Held.{Held, stopped_of}
 use Rattle.kr_turns.proofs.HereLemmas.{image-numbered}

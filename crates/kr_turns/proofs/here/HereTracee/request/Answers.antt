@@ -2,7 +2,7 @@ use Rattle.std.proofs.Common.{ap, subst, sym, ◌∙◌}
 use Rattle.kr_steps.specs.rv_mem.Actions.{carried_out}
 use Rattle.kr_execve.specs.kr_calls.Decodes.{Gives}
 use Rattle.kr_execve.specs.kr_calls.Decoding.{decoding}
-use Rattle.law_steady.specs.kr_model.State.{Image}
+use Rattle.kr_steps.specs.kr_model.State.{Image}
 use Rattle.kr_hostview.specs.kr_ops.Meaning.{meaning}
 use Rattle.kr_steps.specs.kr_stops.Editing.{Decodes, after_request}
 use Rattle.kr_turns.specs.Held.{Held, stopped_of}

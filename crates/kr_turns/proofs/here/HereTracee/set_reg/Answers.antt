@@ -1,5 +1,5 @@
 use Rattle.std.proofs.Common.{slice_set, ap, ◌∙◌}
-use Rattle.law_steady.specs.kr_model.State.{Image}
+use Rattle.kr_steps.specs.kr_model.State.{Image}
 use Rattle.kr_hostview.specs.kr_ops.Meaning.{meaning}
 use Rattle.kr_steps.specs.kr_stops.Editing.{with_register}
 use Rattle.kr_turns.specs.Held.{Held, stopped_of}

@@ -1,10 +1,10 @@
-use Rattle.std.proofs.Common.{◌≡◌, ◌∙◌, ◌&&◌, Bool, true, false, ap, refl, sym}
+use Rattle.std.proofs.Common.{◌≡◌, ◌∙◌, ◌&&◌, Bool, true, false, ap, refl, subst, sym}
 use Rattle.pt_bind.specs.pr_base.Peeks.{Peeked}
 use Rattle.pt_bind.specs.Binding.{host_of, names_of}
 use Rattle.pt_bind.proofs.TagLemmas.{if_ok}
 use Rattle.pt_canon.specs.Laws.{host_bytes}
 use Rattle.pt_canon.specs.Looks.{texts_in}
-use Rattle.pt_canon.specs.Steadily.{entered}
+use Rattle.pt_canon.specs.Steadily.{IsSure, entered}
 use Rattle.pt_canon.specs.TextWalk.{itself_in}
 use Rattle.pt_canon.proofs.SteadyLemmas.{all_entered}
 use Rattle.pt_canon.proofs.translation.Translation.all_steady_in.Goals as goal
@@ -15,6 +15,9 @@ returns-then-not-steady-clause-answer g c =
     let other : false ≡ texts.peeked.steady (host_bytes texts c.args.at.now) =
     sym c.if-not-steady.true ∙ c.in_ok-steady.ensures.answer ∙ ap texts.peeked.steady (c.as_slice.ensures ∙ c.in_ok-host.ensures.host) in
     ap (λ b. b && texts.peeked.steady (itself_in (host_of texts.bindings c.args.at.now))) other
+
+pub is_itself_steady-requires-clause-sure : goal.is_itself_steady-requires-clause-sure
+is_itself_steady-requires-clause-sure g c = let P : Peeked → Type 0 = λ p. IsSure p c.args.sure.now in subst P (sym c.is_steady.ensures.kernel.same) c.requires
 
 pub returns-clause-answer : goal.returns-clause-answer
 returns-clause-answer g c =

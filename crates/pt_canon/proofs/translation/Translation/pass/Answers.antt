@@ -1,4 +1,4 @@
-use Rattle.std.proofs.Common.{◌≡◌, ◌∙◌, ◌++◌, ◌∷◌, true, ap, sym}
+use Rattle.std.proofs.Common.{◌≡◌, ◌∙◌, ◌++◌, ◌∷◌, true, ap, refl, sym}
 use Rattle.pt_bind.specs.pr_base.Paths.{slash, components_of}
 use Rattle.pt_bind.specs.pr_base.WalkFrame.{Leads}
 use Rattle.pt_canon.specs.ProcessLinks.{above}
@@ -7,6 +7,7 @@ use Rattle.pt_canon.specs.Steps.{ended, middle_trail, start_of}
 use Rattle.pt_canon.specs.TextWalk.{seen_text}
 use Rattle.pt_canon.proofs.LookLemmas.{seen_dir}
 use Rattle.pt_canon.proofs.StepLemmas.{goes_same, pass_links, passed}
+use Rattle.pt_canon.proofs.NotedLemmas.{passed_error}
 use Rattle.pt_canon.proofs.translation.Translation.pass.Goals as goal
 
 pub returns-in-Directory-clause-answer : goal.returns-in-Directory-clause-answer
@@ -31,3 +32,17 @@ returns-in_ok-start-in-Links-clause-answer g c =
     let joined : path ≡ text ++ slash ∷ behind = c.in_ok-path-in-Links.ensures ∙ ap (λ text. text ++ slash ∷ behind) c.as_slice.ensures in
     let goes = pass_links texts terms at behind text path start c.in_ok-start-in-Links.ensures.0 begins joined in
     goes_same texts terms.mode terms.left _ (passed texts terms at behind (sight_seen texts at c.args.sight)) _ (ap (λ s. passed texts terms at behind (sight_seen texts at s)) (sym c.in-Links.is)) goes
+
+pub returns-in-Directory-clause-noted : goal.returns-in-Directory-clause-noted
+returns-in-Directory-clause-noted g c = λ asked. (refl, asked)
+
+pub returns-in_err-start-in-Links-clause-noted : goal.returns-in_err-start-in-Links-clause-noted
+returns-in_err-start-in-Links-clause-noted g c = λ asked.
+    let texts = texts_in c.args.self.now (g.K.Peeks.peeked c.args.kernel.now) in
+    let old = g.K.Peeks.unmet c.args.kernel.now in
+    passed_error texts old old c.from_residual-in_err-start-in-Links.result refl c.from_residual-in_err-start-in-Links.ensures.0
+
+pub returns-in_err-guest-in-Jumps-clause-noted : goal.returns-in_err-guest-in-Jumps-clause-noted
+returns-in_err-guest-in-Jumps-clause-noted g c = λ asked.
+    let texts = texts_in c.args.self.now (g.K.Peeks.peeked c.args.kernel.now) in
+    passed_error texts (g.K.Peeks.unmet c.args.kernel.now) (g.K.Peeks.unmet c.jump.new.kernel) c.from_residual-in_err-guest-in-Jumps.result c.jump.ensures.unmet c.from_residual-in_err-guest-in-Jumps.ensures.0

@@ -16,14 +16,14 @@ pub returns-in-Open-clause-answer : goal.returns-in-Open-clause-answer
 returns-in-Open-clause-answer g c =
     let texts = texts_in c.args.self.now (g.K.Peeks.peeked c.args.kernel.now) in
     let P : Known → Type 0 = λ known. WasAsked texts c.args.at.now known c.args.steady in
-    let were = subst P c.in-Open.is c.requires c.if-not-steady.false in
+    let were = subst P c.in-Open.is c.requires.asked c.if-not-steady.false in
     all_entered texts c.args.at.now c.args.steady true c.if-not-steady.false were.0 (sym were.1)
 
 pub returns-in_ok-host-in-Directory-clause-answer : goal.returns-in_ok-host-in-Directory-clause-answer
 returns-in_ok-host-in-Directory-clause-answer g c =
     let texts = texts_in c.args.self.now (g.K.Peeks.peeked c.args.kernel.now) in
     let P : Known → Type 0 = λ known. WasAsked texts c.args.at.now known c.args.steady in
-    let was : texts.peeked.steady (host_bytes texts c.args.at.now) ≡ true = subst P c.in-Directory.is c.requires c.if-not-steady.false in
+    let was : texts.peeked.steady (host_bytes texts c.args.at.now) ≡ true = subst P c.in-Directory.is c.requires.asked c.if-not-steady.false in
     let names = ap names_of c.as_slice.ensures ∙ c.in_ok-host-in-Directory.ensures.names in
     let Q : Bool → Type 0 = λ still. still ≡ texts.peeked.steady (itself_in (names_of c.as_slice.result.now)) in
     let R : Bool → Type 0 = λ still. still ≡ entered texts c.args.steady c.args.at.now in

@@ -1,4 +1,4 @@
-use Rattle.std.proofs.Common.{◌≡◌, ◌∙◌, Option, Some, IfSome, Ok, ap, subst, sym}
+use Rattle.std.proofs.Common.{◌≡◌, ◌∙◌, ◌&&◌, Option, Some, IfSome, Ok, ap, subst, sym}
 use Rattle.std.specs.Map.{lookup}
 use Rattle.pt_bind.specs.pr_base.declared.memory.NoMemory.{NoMemory}
 use Rattle.pt_bind.specs.Binding.{IsWritten}
@@ -7,6 +7,7 @@ use Rattle.pt_canon.specs.Remembering.{Walking, is_steady_key, key_of, same_key}
 use Rattle.pt_canon.specs.Walked.{recalled}
 use Rattle.pt_canon.specs.declared.canon.Canon.{Canon}
 use Rattle.pt_canon.proofs.RememberLemmas.{after_recalled, found_stands}
+use Rattle.pt_canon.proofs.SteadyLemmas.{and_true}
 use Rattle.pt_canon.proofs.walker.Walker.unpaused_answer.Goals as goal
 
 pub returns-in-Some-clause-answer : goal.returns-in-Some-clause-answer
@@ -44,3 +45,14 @@ note-requires g c =
       fresh = ap (λ (w : Walking). lookup (same_key key) w.remembered) still ∙ sym c.in_ok-found.ensures.answer ∙ c.in-None.is;
       written = c.in_ok-walked-in-None.ensures.written;
     }
+
+pub returns-in-Some-clause-noted : goal.returns-in-Some-clause-noted
+returns-in-Some-clause-noted g c =
+    let w = c.args.self.now in
+    let peeked = g.K.Peeks.peeked c.args.kernel.now in
+    let key = key_of c.args.base.now c.args.path.now c.args.mode in
+    let canon = c.in-Some.canon in
+    let old = g.K.Peeks.unmet c.args.kernel.now in
+    let there : lookup (same_key key) w.remembered ≡ Some canon = ap (λ k. lookup (same_key k) w.remembered) (sym c.in_ok-key.ensures) ∙ sym c.in_ok-found.ensures.answer ∙ c.in-Some.is in
+    let so = found_stands w.table peeked key canon w.remembered (c.requires.agrees.each c.requires.running) there c.args.tags.now in
+    sym (ap (λ b. old && b) so.steady ∙ and_true old)

@@ -2,6 +2,7 @@ use Rattle.std.proofs.Common.{◌≡◌, ◌∙◌, ◌-◌, length, sym, ap}
 use Rattle.law_steady.specs.pt_bind.Binding.{rows_of}
 use Rattle.pt_tracer.specs.Planning.{script_plan}
 use Rattle.pt_tracer.proofs.PlanLemmas.{if_ok, peeks-then, script-expanded}
+use Rattle.pt_tracer.proofs.UnmetLemmas.{lent-edits, always, unmet-kept}
 use Rattle.pt_tracer.proofs.planning.ExecvePlanner.expand_with.Goals as goal
 
 pub returns-in-Ok-2-clause-plan : goal.returns-in-Ok-2-clause-plan
@@ -14,4 +15,10 @@ returns-in-Ok-2-clause-plan g c =
     if_ok c.plan_script.result (λ plan e. e ∙ (λ k. script_plan (c.in-Ok.ensures.process.same k) execve.lists.args (kept k) program) ∙ sym steps) c.plan_script.ensures.plan
 
 pub returns-in-Ok-2-clause-edits : goal.returns-in-Ok-2-clause-edits
-returns-in-Ok-2-clause-edits g c = peeks-then c.in-Ok.ensures.process c.plan_script.ensures.edits
+returns-in-Ok-2-clause-edits g c = peeks-then c.in-Ok.ensures.process (lent-edits c.plan_script.ensures.edits)
+
+-- the lists and the shelf of a script are no peeks
+pub returns-in-Ok-2-clause-noted : goal.returns-in-Ok-2-clause-noted
+returns-in-Ok-2-clause-noted g c =
+    let kept = unmet-kept g.T.Tracee.around g.T.Peeks.unmet g.met.T.Tracee.unmet_is_told c.expanded.new.t c.plan_script.new.t c.plan_script.ensures.edits.rest in
+    always c.plan_script.result (kept ∙ c.in-Ok.ensures.noted)

@@ -1,8 +1,10 @@
-use Rattle.std.proofs.Common.{◌∙◌, ap}
+use Rattle.std.proofs.Common.{◌∙◌, ap, sym}
 use Rattle.pt_faker.proofs.StopLemmas.{on_ok}
-use Rattle.pt_tracer.specs.Watched.{Tracing, entered}
+use Rattle.pt_tracer.specs.Watched.{Tracing, asks, entered, entry_unmet}
 use Rattle.pt_tracer.proofs.AgreeLemmas.{edited-agrees}
 use Rattle.pt_tracer.proofs.PauseLemmas.{kept-paused}
+use Rattle.pt_tracer.proofs.UnmetLemmas.{entry-asks}
+use Rattle.pt_faker.specs.kr_stops.Stopped.{unmet_after}
 use Rattle.pt_tracer.proofs.tracer.TracerStops.entry.Goals as goal
 
 pub enter-requires : goal.enter-requires
@@ -24,3 +26,13 @@ returns-clause-others g c =
     on_ok c.pause_at.result
     (λ keeps. record { keeps = λ q other free. keeps q (walked q (c.in_ok-pause_anew.ensures.others.keeps q (λ e. other (e ∙ c.pid-pid.ensures.pid)) free)) })
     c.pause_at.ensures.others
+
+pub returns-clause-asks : goal.returns-clause-asks
+returns-clause-asks g c =
+    let t = g.T.Tracee.stopped c.args.t.now in
+    let x = c.args.self.now.tracing in
+    let old = g.T.Peeks.unmet c.args.t.now in
+    let told = g.met.T.Tracee.unmet_is_told in
+    on_ok c.pause_at.result
+    (λ _. told c.enter.new.t ∙ c.in_ok-enter.ensures.noted ∙ ap (λ (x : Tracing). entry_unmet x t old) c.in_ok-pause_anew.ensures.tracing ∙ entry-asks x t old ∙ ap (unmet_after (asks x t)) (sym (told c.args.t.now)))
+    c.pause_at.ensures.tracing

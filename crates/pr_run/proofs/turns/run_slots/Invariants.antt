@@ -1,0 +1,18 @@
+use Rattle.std.proofs.Common.{◌≡◌, ◌≤◌}
+use Rattle.pr_run.specs.Going.{went_by}
+use Rattle.pr_run.specs.Slots.{slot_of}
+use Rattle.pr_run.proofs.RunLemmas.{IsAlong}
+use Rattle.pr_run.proofs.turns.run_slots.Given as goal
+
+abbrev pub invariant-loop-turn : goal.invariant-loop-turn
+invariant-loop-turn g l =
+    let going = g.G.Goes.going (g.G.Goes.fixed l.fn.run) in
+    record {
+      whole_is : g.G.Goes.is_whole l.run;
+      made : g.G.Goes.made l.run ≤ l.turn;
+      same : g.G.Goes.fixed l.run ≡ g.G.Goes.fixed l.fn.run;
+      along : (x : g.G.Goes.Run) → g.G.Goes.stands_for l.fn.run x
+          → IsAlong going (slot_of l.fn.plan.schedule) (went_by going l.fn.plan x) l.fn.plan.turns l.turn (g.G.Goes.stands_for l.run) (g.O.Sink.got l.fn.out) (g.O.Sink.got l.out) (g.R.Sink.got l.fn.err) (g.R.Sink.got l.err);
+      out_count : g.O.Sink.faults l.fn.out ≤ g.O.Sink.faults l.out;
+      err_count : g.R.Sink.faults l.fn.err ≤ g.R.Sink.faults l.err;
+    }
