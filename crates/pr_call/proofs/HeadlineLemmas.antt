@@ -2,30 +2,30 @@
 use Rattle.std.proofs.Common.{◌≡◌, ◌⊎◌, inl, inr, ℕ, true, false, List, None, Result, Ok, Err, refl, sym, ap, subst, ◌∙◌}
 use Rattle.std.specs.Prelude.{IfOk}
 use Rattle.std.specs.List.{AllByRecursion}
-use Rattle.law_machines.specs.kr_tree.Lawful.{AreBytes}
-use Rattle.law_machines.specs.kr_mounts.MountTable.{Refusal}
-use Rattle.law_machines.specs.kr_view.View.{Row}
-use Rattle.law_machines.specs.Given.{settled_in}
-use Rattle.law_machines.proofs.SourceLemmas.{read-has-options}
-use Rattle.law_machines.specs.pr_words.declared.options.Options.{Options}
-use Rattle.law_machines.specs.pr_sources.declared.answer.Answer.{Answer}
-use Rattle.law_machines.specs.pr_sources.Asking.{asked}
-use Rattle.law_machines.specs.pr_sources.Reading.{IsRead, read_asked}
-use Rattle.law_machines.specs.pr_sources.declared.reading.Asked.{Asked}
-use Rattle.law_machines.specs.kr_mounts.Standing.{texts_of}
-use Rattle.law_machines.specs.pr_top.pr_base.declared.errno.Errno.{Errno}
-use Rattle.law_machines.specs.pr_run.declared.plan.Plan.{Plan}
-use Rattle.law_machines.specs.pr_start.TracedBeginning.{Tracing, traced_beginning}
-use Rattle.law_machines.specs.pr_start.Machines.{Machine}
-use Rattle.law_machines.specs.pr_top.Opening.{Begun, Both, Loosely, Mounts, Started, Traced, WasRead, begun_as, launch_of, opening, over, plan_of, report, report_on, started_as}
-use Rattle.law_machines.specs.Openings.{IsCalmRun, IsToldAlike, OpeningsAgree, asked_on, over_mounts, with_tracer}
-use Rattle.law_machines.proofs.OpeningLemmas.{refusals_agree, words_begin_traced}
+use Rattle.law_loosely.specs.law_machines.kr_tree.Lawful.{AreBytes}
+use Rattle.law_loosely.specs.law_machines.kr_mounts.MountTable.{Refusal}
+use Rattle.law_loosely.specs.law_machines.kr_view.View.{Row}
+use Rattle.law_loosely.specs.law_machines.Given.{settled_in}
+use Rattle.law_loosely.proofs.law_machines.SourceLemmas.{read-has-options}
+use Rattle.law_loosely.specs.law_machines.pr_words.declared.options.Options.{Options}
+use Rattle.law_loosely.specs.law_machines.pr_sources.declared.answer.Answer.{Answer}
+use Rattle.law_loosely.specs.law_machines.pr_sources.Asking.{asked}
+use Rattle.law_loosely.specs.law_machines.pr_sources.Reading.{IsRead, read_asked}
+use Rattle.law_loosely.specs.law_machines.pr_sources.declared.reading.Asked.{Asked}
+use Rattle.law_loosely.specs.law_machines.kr_mounts.Standing.{texts_of}
+use Rattle.law_loosely.specs.law_machines.pr_top.pr_base.declared.errno.Errno.{Errno}
+use Rattle.law_loosely.specs.law_machines.pr_run.declared.plan.Plan.{Plan}
+use Rattle.law_loosely.specs.law_machines.pr_start.TracedBeginning.{Tracing, traced_beginning}
+use Rattle.law_loosely.specs.law_machines.pr_start.Machines.{Machine}
+use Rattle.law_loosely.specs.law_machines.pr_top.Opening.{Begun, Both, Loosely, Mounts, Started, Traced, WasRead, begun_as, launch_of, opening, over, plan_of, report, report_on, started_as}
+use Rattle.law_loosely.specs.law_machines.Openings.{IsCalmRun, IsToldAlike, OpeningsAgree, asked_on, over_mounts, with_tracer}
+use Rattle.law_loosely.proofs.law_machines.OpeningLemmas.{refusals_agree, words_begin_traced}
 use Rattle.pr_call.specs.Headline.{AsksTraced, OfCalmOpening, OpensCalmly}
 use Rattle.pr_call.specs.Promise.{IsReported, Passed, TellsOpening, TellsStarted}
 use Rattle.pr_call.proofs.WordLemmas.{watched_is_quiet}
 
 -- a run over mounts begins where the bindings settle
-settled-if-begun : (a : Asked) (b : Begun) → over_mounts a ≡ Ok b → (table : List Row) × ((settled_in a).answer ≡ Ok table)
+pub settled-if-begun : (a : Asked) (b : Begun) → over_mounts a ≡ Ok b → (table : List Row) × ((settled_in a).answer ≡ Ok table)
 settled-if-begun a b begins = by (settled_in a).answer refl begins
   where
     by : (r : Result (List Row) Refusal) → (settled_in a).answer ≡ r → over (asked_on true a) (settled_in a).tree r ≡ Ok b → (table : List Row) × ((settled_in a).answer ≡ Ok table)
@@ -53,6 +53,29 @@ told-mounted plan (Mounts table m) p a calm told = told
 told-mounted plan (Traced m) p a calm told = absurd calm
 told-mounted plan (Loosely met m) p a calm told = absurd calm
 told-mounted plan (Both n m table k) p a calm told = absurd calm
+
+-- ---- what was read
+
+module _ (words : List (List ℕ)) (tree elf input : List ℕ) where
+  -- unless the opening ended early
+  abbrev pub WasReadOr : Type 0 → Type 0
+  WasReadOr E = IfOk (asked words) (λ o. o.case ≡ None → WasRead (read_asked o tree elf input) ⊎ E)
+
+  pub read-asked-or : (E : Type 0) → WasReadOr E → (o : Options) (a : Asked) → asked words ≡ Ok o → o.case ≡ None → read_asked o tree elf input ≡ Ok a → IsRead a ⊎ E
+  read-asked-or E was o a asks own gives = by ((subst (λ w. IfOk w (λ o. o.case ≡ None → WasRead (read_asked o tree elf input) ⊎ E)) asks was) own)
+    where
+      by : WasRead (read_asked o tree elf input) ⊎ E → IsRead a ⊎ E
+      by (inl read) = inl (subst (λ r. IfOk r IsRead) gives read)
+      by (inr early) = inr early
+
+  pub read-too : IfOk (asked words) (λ o. o.case ≡ None → WasRead (read_asked o tree elf input)) → WasReadOr ⊥
+  read-too = by (asked words)
+    where
+      by : (w : Result Options Answer) → IfOk w (λ o. o.case ≡ None → WasRead (read_asked o tree elf input)) → IfOk w (λ o. o.case ≡ None → WasRead (read_asked o tree elf input) ⊎ ⊥)
+      by (Ok o) read = λ own. inl (read own)
+      by (Err answer) read = tt
+
+-- ---- what is told
 
 module _ (agree : OpeningsAgree) (words : List (List ℕ)) (tree elf input : List ℕ) (are : AllByRecursion AreBytes words) where
   quiet : (a : Asked) → (is : AsksTraced words tree elf input a) → a.options.calm ≡ false
@@ -93,30 +116,13 @@ module _ (agree : OpeningsAgree) (words : List (List ℕ)) (tree elf input : Lis
           let own : IsToldAlike a table (Err refusal) (with_tracer a) = subst (λ one. IsToldAlike a table one (with_tracer a)) is.opens (alike a table is.traced read settles) in
           own (is.calm table settles)
 
-  -- ---- what was read
-
-  -- unless the opening ended early
-  abbrev pub WasReadOr : Type 0 → Type 0
-  WasReadOr E = IfOk (asked words) (λ o. o.case ≡ None → WasRead (read_asked o tree elf input) ⊎ E)
-
-  read-or : (E : Type 0) → WasReadOr E → (a : Asked) → AsksTraced words tree elf input a → IsRead a ⊎ E
-  read-or E was a is = by ((subst (λ w. IfOk w (λ o. o.case ≡ None → WasRead (read_asked o tree elf input) ⊎ E)) is.asks was) is.own)
-    where
-      by : WasRead (read_asked is.options tree elf input) ⊎ E → IsRead a ⊎ E
-      by (inl read) = inl (subst (λ r. IfOk r IsRead) is.gives read)
-      by (inr early) = inr early
-
-  pub read-too : IfOk (asked words) (λ o. o.case ≡ None → WasRead (read_asked o tree elf input)) → WasReadOr ⊥
-  read-too = by (asked words)
-    where
-      by : (w : Result Options Answer) → IfOk w (λ o. o.case ≡ None → WasRead (read_asked o tree elf input)) → IfOk w (λ o. o.case ≡ None → WasRead (read_asked o tree elf input) ⊎ ⊥)
-      by (Ok o) read = λ own. inl (read own)
-      by (Err answer) read = tt
+  read-or : (E : Type 0) → WasReadOr words tree elf input E → (a : Asked) → AsksTraced words tree elf input a → IsRead a ⊎ E
+  read-or E was a is = read-asked-or words tree elf input E was is.options a is.asks is.own is.gives
 
   -- ---- the clause
 
   -- what is told of the opening is told of what is opened over mounts, where that is calm
-  pub headline : (E : Type 0) → WasReadOr E → (p : Passed) (a : Answer) → (E → (o : Result Begun Answer) → TellsOpening o p a)
+  pub headline : (E : Type 0) → WasReadOr words tree elf input E → (p : Passed) (a : Answer) → (E → (o : Result Begun Answer) → TellsOpening o p a)
       → TellsOpening (opening words tree elf input) p a → OfCalmOpening words tree elf input (λ o. TellsOpening o p a)
   headline E was p a early tells = λ o is. by o is (read-or E was is.asked_for is.traced)
     where

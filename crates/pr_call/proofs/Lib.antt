@@ -3,4 +3,5 @@ pub mod TellingLemmas
 pub mod TopLemmas
 pub mod WordLemmas
 pub mod HeadlineLemmas
+pub mod LooseLemmas
 mod Utf8Lemmas

@@ -1,24 +1,24 @@
 -- What an answer of a report says in the words of the top call.
 use Rattle.std.proofs.Common.{◌≡◌, ◌⊎◌, inl, inr, ℕ, List, sym, subst, ◌∙◌}
 use Rattle.std.specs.Prelude.{Result, Ok, Err}
-use Rattle.law_machines.specs.pr_sources.declared.answer.Answer.{Answer}
-use Rattle.law_machines.specs.pr_sources.declared.answer.Answer.TheVariants.{Ended, Deadlock, Spent, Usage, TooLong, TreeBad, BadBind, NoStart, ReadFault, WriteFault, NoMemory}
-use Rattle.law_machines.specs.pr_sources.declared.answer.Which.{Which}
-use Rattle.law_machines.specs.pr_sources.declared.answer.Which.TheVariants.{Tree as TreeSource, Elf, Input, Out, Err as ErrSink, Left}
-use Rattle.law_machines.specs.pr_sources.Reading.{EndsBeforeElf, EndsBeforeInput}
-use Rattle.law_machines.specs.pr_run.Report.{Deadlock as AllWait, Ending, Over, Report, Spent as NoTurnIsLeft, answer_of}
-use Rattle.law_machines.specs.pr_run.Puts.{AnswersReport, Got, GotPrefix, PutsReport, PutsTurns, StopsBetween, StopsInCalm, StopsInErr, StopsInOut, answer_told, stop_answer}
-use Rattle.law_machines.specs.pr_run.declared.plan.Plan.{Plan}
-use Rattle.law_machines.specs.pr_run.declared.turns.Stop.{Stop}
-use Rattle.law_machines.specs.pr_run.declared.turns.Stop.TheVariants as stop
-use Rattle.law_machines.specs.pr_run.Stepping.{StopsInSteps, TellsQuiet, loose_report}
-use Rattle.law_machines.specs.pr_io.Drawn.{Received}
-use Rattle.law_machines.specs.kr_turns.Run.{Put}
-use Rattle.law_machines.specs.kr_view.View.{plain}
-use Rattle.law_machines.specs.pr_start.TracedBeginning.{asks}
-use Rattle.law_machines.specs.pr_top.Opening.{AnswersBegun, AnswersStarted, Begun, Both, Loosely, Mounts, OpensFrom, Started, Traced, begun_told, loose_traced_run, mounted_run, report_on, started_told, traced_run}
+use Rattle.law_loosely.specs.law_machines.pr_sources.declared.answer.Answer.{Answer}
+use Rattle.law_loosely.specs.law_machines.pr_sources.declared.answer.Answer.TheVariants.{Ended, Deadlock, Spent, Usage, TooLong, TreeBad, BadBind, NoStart, ReadFault, WriteFault, NoMemory}
+use Rattle.law_loosely.specs.law_machines.pr_sources.declared.answer.Which.{Which}
+use Rattle.law_loosely.specs.law_machines.pr_sources.declared.answer.Which.TheVariants.{Tree as TreeSource, Elf, Input, Out, Err as ErrSink, Left}
+use Rattle.law_loosely.specs.law_machines.pr_sources.Reading.{EndsBeforeElf, EndsBeforeInput}
+use Rattle.law_loosely.specs.law_machines.pr_run.Report.{Deadlock as AllWait, Ending, Over, Report, Spent as NoTurnIsLeft, answer_of}
+use Rattle.law_loosely.specs.law_machines.pr_run.Puts.{AnswersReport, Got, GotPrefix, PutsReport, PutsTurns, StopsBetween, StopsInCalm, StopsInErr, StopsInOut, answer_told, stop_answer}
+use Rattle.law_loosely.specs.law_machines.pr_run.declared.plan.Plan.{Plan}
+use Rattle.law_loosely.specs.law_machines.pr_run.declared.turns.Stop.{Stop}
+use Rattle.law_loosely.specs.law_machines.pr_run.declared.turns.Stop.TheVariants as stop
+use Rattle.law_loosely.specs.law_machines.pr_run.Stepping.{StopsInSteps, TellsQuiet, loose_report}
+use Rattle.law_loosely.specs.law_machines.pr_io.Drawn.{Received}
+use Rattle.law_loosely.specs.law_machines.kr_turns.Run.{Put}
+use Rattle.law_loosely.specs.law_machines.kr_view.View.{plain}
+use Rattle.law_loosely.specs.law_machines.pr_start.TracedBeginning.{asks}
+use Rattle.law_loosely.specs.law_machines.pr_top.Opening.{AnswersBegun, AnswersStarted, Begun, Both, Loosely, Mounts, OpensFrom, Started, Traced, begun_told, loose_traced_run, mounted_run, report_on, started_told, traced_run}
 use Rattle.pr_call.specs.Promise.{ComesBeforeRun, EndsEarly, EndsInSteps, IsReported, Passed, Refuses, TellsOpening, TellsRun, TellsStarted}
-use Rattle.law_machines.specs.pr_top.declared.opening.Opened.{Opened}
+use Rattle.law_loosely.specs.law_machines.pr_top.declared.opening.Opened.{Opened}
 
 -- a report's own answer tells a run, on both machines
 answer-tells : (e : Ending) (status : ℕ) → TellsRun (answer_of e status)

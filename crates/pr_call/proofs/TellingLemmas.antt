@@ -2,20 +2,28 @@
 use Rattle.std.proofs.Common.{◌≡◌, ◌∙◌, ◌⊎◌, inl, inr, ℕ, List, Option, Some, None, IfSome, refl, sym, subst}
 use Rattle.std.specs.Prelude.{Result, Ok, Err, IfOk}
 use Rattle.std.specs.Io.KnownBytes.{IsAtEnd}
-use Rattle.law_machines.specs.pr_words.declared.options.Options.{Options}
-use Rattle.law_machines.specs.pr_io.Drawn.{gave}
-use Rattle.law_machines.specs.pr_sources.declared.answer.Answer.{Answer}
-use Rattle.law_machines.specs.pr_sources.declared.answer.Answer.TheVariants.{Ended, Deadlock, Spent, Usage, TooLong, TreeBad, BadBind, NoStart, ReadFault, WriteFault, NoMemory}
-use Rattle.law_machines.specs.pr_sources.declared.answer.Which.TheVariants.{Tree as TreeSource, Elf, Input, Out, Err as ErrSink, Left}
-use Rattle.law_machines.specs.pr_sources.Asking.{asked}
-use Rattle.law_machines.specs.pr_sources.Reading.{AllAreRead, HasCause, IsListed, IsPast, IsWanted, ReadsSources, Sources, WantsElf, read_asked, read_listing, read_tree}
-use Rattle.law_machines.specs.pr_sources.Telling.{Agrees, SourcesThatTellAgree, Stage, and_told, told_asked, told_listing, told_tree}
-use Rattle.law_machines.specs.pr_sources.Within.{IsEarly, and_then}
-use Rattle.law_machines.proofs.pr_sources.TellingLemmas.{agrees_listing, agrees_then, agrees_tree, has}
-use Rattle.law_machines.specs.pr_top.Opening.{Begun, begins, opened_for, report}
+use Rattle.law_loosely.specs.law_machines.pr_words.declared.options.Options.{Options}
+use Rattle.law_loosely.specs.law_machines.kr_turns.Turn.{Machine}
+use Rattle.law_loosely.specs.law_machines.kr_view.View.{Row}
+use Rattle.law_loosely.specs.law_machines.pr_run.declared.plan.Plan.{Plan}
+use Rattle.law_loosely.specs.law_machines.pr_start.Machines.{Watch}
+use Rattle.law_loosely.specs.law_machines.pr_start.TracedBeginning.{Tracing}
+use Rattle.law_loosely.specs.Loosely.{image_of, mounted_by}
+use Rattle.law_loosely.specs.law_machines.pr_io.Drawn.{gave}
+use Rattle.law_loosely.specs.law_machines.pr_sources.declared.answer.Answer.{Answer}
+use Rattle.law_loosely.specs.law_machines.pr_sources.declared.answer.Answer.TheVariants.{Ended, Deadlock, Spent, Usage, TooLong, TreeBad, BadBind, NoStart, ReadFault, WriteFault, NoMemory}
+use Rattle.law_loosely.specs.law_machines.pr_sources.declared.answer.Which.TheVariants.{Tree as TreeSource, Elf, Input, Out, Err as ErrSink, Left}
+use Rattle.law_loosely.specs.law_machines.pr_sources.Asking.{asked}
+use Rattle.law_loosely.specs.law_machines.pr_sources.Reading.{AllAreRead, HasCause, IsListed, IsPast, IsWanted, ReadsSources, Sources, WantsElf, read_asked, read_listing, read_tree}
+use Rattle.law_loosely.specs.law_machines.pr_sources.Telling.{Agrees, SourcesThatTellAgree, Stage, and_told, told_asked, told_listing, told_tree}
+use Rattle.law_loosely.specs.law_machines.pr_sources.Within.{IsEarly, and_then}
+use Rattle.law_loosely.proofs.law_machines.pr_sources.TellingLemmas.{agrees_listing, agrees_then, agrees_tree, has}
+use Rattle.law_loosely.specs.law_machines.pr_top.Opening.{Begun, begins, loose_traced_run, opened_for, report}
+use Rattle.pr_call.specs.LooseHeadline.{TellsLoosely}
 use Rattle.pr_call.specs.Promise.{ComesBeforeRun, IsAnswerOf, IsReadThrough, NoneFailed, NothingIsPut, Passed, Refuses, TellsOpening, TellsRun, opened_by}
-use Rattle.pr_call.specs.Telling.{HasToldCause, IsPromised, IsPromisedOfTold, OpensToldCalmly, PromisesHoldOfTold, told_by, told_opened_for}
-use Rattle.pr_call.proofs.TopLemmas.{early-told, no-fault-left, not-early}
+use Rattle.pr_call.specs.Telling.{HasToldCause, IsPromised, IsPromisedOfTold, OpensToldCalmly, OpensToldQuietly, PromisesHoldOfTold, told_by, told_opened_for}
+use Rattle.pr_call.proofs.LooseLemmas.{early-image}
+use Rattle.pr_call.proofs.TopLemmas.{early-ends, early-opening, early-told, no-fault-left, not-early, not-told}
 
 module _ (law : SourcesThatTellAgree) (words : List (List ℕ)) (p : Passed) (a : Answer) (is : IsPromised words p a) where
   abbrev s : Sources
@@ -116,6 +124,27 @@ module _ (law : SourcesThatTellAgree) (words : List (List ℕ)) (p : Passed) (a 
             calm = calm.calm;
           })
 
+  quietly : (plan : Plan) (n : Machine Tracing) (table : List Row) (m : Machine Watch) → OpensToldQuietly words s.tree.had s.elf.had s.input.had plan n table m → TellsLoosely plan n table m p a
+  quietly plan n table m opens = by (asked-same opens.loosely.options (subst ReadsSources (sym opens.loosely.asks) opens.loosely.own))
+    where
+      by : Same opens.loosely.options ⊎ CutShort → TellsLoosely plan n table m p a
+      by (inr cut) =
+          early-image (loose_traced_run plan n) (mounted_by (image_of (loose_traced_run plan n)) table m) plan.user p a (early-ends a cut.early) (not-told a (early-opening a cut.early))
+      by (inl same) =
+          let given : Ok opens.asked_for ≡ read_asked opens.loosely.options (gave s.tree) (gave s.elf) (gave s.input) = subst (λ told. Agrees told (read_asked opens.loosely.options (gave s.tree) (gave s.elf) (gave s.input))) opens.loosely.tells same in
+          is.loose plan n table m (record {
+            asked_for = opens.asked_for;
+            loosely = record {
+              options = opens.loosely.options;
+              asks = opens.loosely.asks;
+              gives = sym given;
+              own = opens.loosely.own;
+              watched = opens.loosely.watched;
+              untold = opens.loosely.untold;
+            };
+            begins = opens.begins;
+          })
+
   -- ---- sources
 
   caused : (b : Answer) → a ≡ b → HasCause (asked words) s b → HasToldCause (asked words) (told_tree s.tree.had) (told_listing s.tree.had s.elf.had) s b
@@ -163,6 +192,7 @@ module _ (law : SourcesThatTellAgree) (words : List (List ℕ)) (p : Passed) (a 
   pub promised-of-told : IsPromisedOfTold words p a
   promised-of-told = record {
     headline = calmly;
+    loose = quietly;
     opening = tells (told_by words s) opened-same;
     refusal = λ refused. refuses refused (told_by words s) opened-same;
     causes = caused a refl is.causes;

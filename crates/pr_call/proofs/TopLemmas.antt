@@ -2,24 +2,24 @@
 use Rattle.std.proofs.Common.{◌≡◌, ◌⊎◌, ◌∙◌, inl, inr, ℕ, false, List, [], refl, sym, subst}
 use Rattle.std.specs.Prelude.{Result, Ok, Err}
 use Rattle.std.proofs.lemmas.List.{append-nil}
-use Rattle.law_machines.specs.pr_io.Moves.{Gets, Stays}
-use Rattle.law_machines.specs.pr_words.declared.options.Options.{Options}
-use Rattle.law_machines.specs.pr_sources.declared.answer.Answer.{Answer}
-use Rattle.law_machines.specs.pr_sources.declared.answer.Answer.TheVariants.{Ended, Deadlock, Spent, Usage, TooLong, TreeBad, BadBind, NoStart, ReadFault, WriteFault, NoMemory}
-use Rattle.law_machines.specs.pr_sources.declared.answer.Which.{Which}
-use Rattle.law_machines.specs.pr_sources.declared.answer.Which.TheVariants.{Tree as TreeSource, Elf, Input, Out, Err as ErrSink, Left}
-use Rattle.law_machines.specs.pr_sources.Reading.{AllAreRead, HasCause, IsReadUpTo}
-use Rattle.law_machines.specs.pr_sources.Within.{IsEarly}
-use Rattle.law_machines.specs.pr_run.Report.{Report}
-use Rattle.law_machines.specs.pr_run.Puts.{PutsReport, answer_told}
-use Rattle.law_machines.specs.pr_run.declared.turns.Stop.{Stop}
-use Rattle.law_machines.specs.pr_run.declared.turns.Stop.TheVariants as stop
-use Rattle.law_machines.specs.pr_run.Stepping.{loose_report}
-use Rattle.law_machines.specs.pr_run.declared.plan.Plan.{Plan}
-use Rattle.law_machines.specs.kr_turns.Run.{Put}
-use Rattle.law_machines.specs.pr_top.Opening.{AnswersBegun, AnswersStarted, Begun, Both, IsOfOpening, Loosely, Mounts, OpensFrom, Started, Traced, begun_told, loose_traced_run, report_on, started_told}
+use Rattle.law_loosely.specs.law_machines.pr_io.Moves.{Gets, Stays}
+use Rattle.law_loosely.specs.law_machines.pr_words.declared.options.Options.{Options}
+use Rattle.law_loosely.specs.law_machines.pr_sources.declared.answer.Answer.{Answer}
+use Rattle.law_loosely.specs.law_machines.pr_sources.declared.answer.Answer.TheVariants.{Ended, Deadlock, Spent, Usage, TooLong, TreeBad, BadBind, NoStart, ReadFault, WriteFault, NoMemory}
+use Rattle.law_loosely.specs.law_machines.pr_sources.declared.answer.Which.{Which}
+use Rattle.law_loosely.specs.law_machines.pr_sources.declared.answer.Which.TheVariants.{Tree as TreeSource, Elf, Input, Out, Err as ErrSink, Left}
+use Rattle.law_loosely.specs.law_machines.pr_sources.Reading.{AllAreRead, HasCause, IsReadUpTo}
+use Rattle.law_loosely.specs.law_machines.pr_sources.Within.{IsEarly}
+use Rattle.law_loosely.specs.law_machines.pr_run.Report.{Report}
+use Rattle.law_loosely.specs.law_machines.pr_run.Puts.{PutsReport, answer_told}
+use Rattle.law_loosely.specs.law_machines.pr_run.declared.turns.Stop.{Stop}
+use Rattle.law_loosely.specs.law_machines.pr_run.declared.turns.Stop.TheVariants as stop
+use Rattle.law_loosely.specs.law_machines.pr_run.Stepping.{loose_report}
+use Rattle.law_loosely.specs.law_machines.pr_run.declared.plan.Plan.{Plan}
+use Rattle.law_loosely.specs.law_machines.kr_turns.Run.{Put}
+use Rattle.law_loosely.specs.law_machines.pr_top.Opening.{AnswersBegun, AnswersStarted, Begun, Both, IsOfOpening, Loosely, Mounts, OpensFrom, Started, Traced, begun_told, loose_traced_run, report_on, started_told}
 use Rattle.pr_call.specs.Promise.{ComesBeforeRun, EndsEarly, EndsInSteps, IsAnswerOf, IsReadThrough, IsRefused, IsReported, NoneFailed, NothingIsPut, Passed, Refuses, TellsOpening, TellsRun, TellsStarted}
-use Rattle.law_machines.specs.pr_top.declared.opening.Opened.{Opened}
+use Rattle.law_loosely.specs.law_machines.pr_top.declared.opening.Opened.{Opened}
 
 -- ---- kinds of answers
 
@@ -137,7 +137,7 @@ module _ (a : Answer) (is : IsOfOpening a) (p : Passed) (none : NothingIsPut p) 
   opening-told (Err r) (inr early) = refused-as r (inr early)
 
 -- an early end is of an opening
-early-opening : (a : Answer) → IsEarly a → IsOfOpening a
+pub early-opening : (a : Answer) → IsEarly a → IsOfOpening a
 early-opening NoMemory early = tt
 early-opening (ReadFault which) early = tt
 early-opening (Ended status) early = absurd early

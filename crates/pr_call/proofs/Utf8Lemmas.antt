@@ -7,7 +7,7 @@ use Rattle.std.specs.String.{string_bytes}
 use Rattle.std.proofs.Math.Utf8.{encode, encodes, scalar, scalars, scalar_cases}
 use Rattle.std.proofs.lemmas.Bool.{and_parts, ltb-true}
 use Rattle.std.proofs.lemmas.Str.{IsUtf8-string_bytes}
-use Rattle.law_machines.specs.kr_tree.Lawful.{AreBytes}
+use Rattle.law_loosely.specs.law_machines.kr_tree.Lawful.{AreBytes}
 
 joined : (one two : List ℕ) → AreBytes one → AreBytes two → AreBytes (one ++ two)
 joined [] two are also = also

@@ -3,14 +3,14 @@ use Rattle.std.proofs.Common.{◌≡◌, ℕ, ◌+◌, false, List, [], ◌∷�
 use Rattle.std.specs.Prelude.{is_some, if◌then◌else◌}
 use Rattle.std.specs.List.{position}
 use Rattle.std.specs.Option.{option_map}
-use Rattle.law_machines.specs.pr_words.declared.fault.Why.{Why}
-use Rattle.law_machines.specs.pr_words.declared.fault.Why.TheVariants.{CalmAlone, CaseAlone, LooseAlone, ZeroByte}
-use Rattle.law_machines.specs.pr_words.declared.fault.WordsFault.{WordsFault}
-use Rattle.law_machines.specs.pr_words.declared.options.Options.{Options}
-use Rattle.law_machines.specs.pr_words.Meaning.{calm_in, latest, native_in, options_of, or_earlier}
-use Rattle.law_machines.specs.pr_words.Reading.{Command, Given, Line, Then, accepted, broken_at, calm_alone, case_alone, ended, first_place, has_zero, is_calm, line_of, loose_alone, or_else, place_if, reading_of, settings_of, told}
-use Rattle.law_machines.proofs.pr_words.SoundLemmas.{accepted-then, accepted_step, go_on}
-use Rattle.law_machines.specs.pr_sources.Asking.{asked, asked_of}
+use Rattle.law_loosely.specs.law_machines.pr_words.declared.fault.Why.{Why}
+use Rattle.law_loosely.specs.law_machines.pr_words.declared.fault.Why.TheVariants.{CalmAlone, CaseAlone, LooseAlone, ZeroByte}
+use Rattle.law_loosely.specs.law_machines.pr_words.declared.fault.WordsFault.{WordsFault}
+use Rattle.law_loosely.specs.law_machines.pr_words.declared.options.Options.{Options}
+use Rattle.law_loosely.specs.law_machines.pr_words.Meaning.{calm_in, latest, native_in, options_of, or_earlier}
+use Rattle.law_loosely.specs.law_machines.pr_words.Reading.{Command, Given, Line, Then, accepted, broken_at, calm_alone, case_alone, ended, first_place, has_zero, is_calm, line_of, loose_alone, or_else, place_if, reading_of, settings_of, told}
+use Rattle.law_loosely.proofs.law_machines.pr_words.SoundLemmas.{accepted-then, accepted_step, go_on}
+use Rattle.law_loosely.specs.law_machines.pr_sources.Asking.{asked, asked_of}
 
 -- words without a first `--calm` have none
 none_calm : (given : List Given) → first_place is_calm given ≡ None → is_some (latest calm_in (settings_of given)) ≡ false

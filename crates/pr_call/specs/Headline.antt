@@ -1,16 +1,16 @@
 -- The same words and bytes over mounts: what they open there, where that is calm. Without `--native` the public call answers and puts what is
 -- told of it.
 use Rattle.std.specs.Prelude.{◌≡◌, ℕ, false, List, [], None, Result, Ok, Err}
-use Rattle.law_machines.specs.pr_io.Drawn.{gave}
-use Rattle.law_machines.specs.kr_view.View.{Row}
-use Rattle.law_machines.specs.Given.{settled_in}
-use Rattle.law_machines.specs.pr_words.declared.options.Options.{Options}
-use Rattle.law_machines.specs.pr_sources.declared.answer.Answer.{Answer}
-use Rattle.law_machines.specs.pr_sources.Asking.{asked}
-use Rattle.law_machines.specs.pr_sources.Reading.{read_asked}
-use Rattle.law_machines.specs.pr_sources.declared.reading.Asked.{Asked}
-use Rattle.law_machines.specs.pr_top.Opening.{Begun}
-use Rattle.law_machines.specs.Openings.{IsCalmRun, IsCalmStart, over_mounts}
+use Rattle.law_loosely.specs.law_machines.pr_io.Drawn.{gave}
+use Rattle.law_loosely.specs.law_machines.kr_view.View.{Row}
+use Rattle.law_loosely.specs.law_machines.Given.{settled_in}
+use Rattle.law_loosely.specs.law_machines.pr_words.declared.options.Options.{Options}
+use Rattle.law_loosely.specs.law_machines.pr_sources.declared.answer.Answer.{Answer}
+use Rattle.law_loosely.specs.law_machines.pr_sources.Asking.{asked}
+use Rattle.law_loosely.specs.law_machines.pr_sources.Reading.{read_asked}
+use Rattle.law_loosely.specs.law_machines.pr_sources.declared.reading.Asked.{Asked}
+use Rattle.law_loosely.specs.law_machines.pr_top.Opening.{Begun}
+use Rattle.law_loosely.specs.law_machines.Openings.{IsCalmRun, IsCalmStart, over_mounts}
 use Rattle.pr_call.specs.Promise.{Passed, TellsOpening}
 
 -- what words ask for of the bytes of sources: not for a generated case, not for mounts, and not for single steps

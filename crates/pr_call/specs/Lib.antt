@@ -1,3 +1,4 @@
 pub mod Promise
 pub mod Headline
+pub mod LooseHeadline
 pub mod Telling

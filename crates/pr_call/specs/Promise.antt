@@ -1,21 +1,21 @@
 -- The words in which the top call says what it answers, what the sources gave, and what the sinks got.
 use Rattle.std.specs.Prelude.{◌≡◌, ◌⊎◌, ℕ, Bool, List, Result, Ok, Err}
-use Rattle.law_machines.specs.pr_io.Drawn.{Received, SinkFailed, SourceFailed, drawn, gave, received}
-use Rattle.law_machines.specs.pr_io.declared.sink.Sink.{Ghosts as OfSink}
-use Rattle.law_machines.specs.pr_io.declared.source.Source.{Ghosts as OfSource}
-use Rattle.law_machines.specs.pr_sources.declared.answer.Answer.{Answer}
-use Rattle.law_machines.specs.pr_sources.declared.answer.Answer.TheVariants.{Ended, Deadlock, Spent, Usage, TooLong, TreeBad, BadBind, NoStart, ReadFault, WriteFault, NoMemory}
-use Rattle.law_machines.specs.pr_sources.declared.answer.Which.TheVariants.{Out, Err as ErrSink, Left}
-use Rattle.law_machines.specs.pr_sources.Reading.{AllAreRead, IsReadUpTo, Sources}
-use Rattle.law_machines.specs.pr_sources.Within.{IsEarly}
-use Rattle.law_machines.specs.pr_run.Report.{Report}
-use Rattle.law_machines.specs.pr_run.Puts.{Got, GotNone, GotPrefix, PutsTurns, StopsBetween, StopsInCalm, StopsInErr, StopsInOut}
-use Rattle.law_machines.specs.pr_run.Stepping.{TellsQuiet, loose_report}
-use Rattle.law_machines.specs.pr_run.declared.plan.Plan.{Plan}
-use Rattle.law_machines.specs.kr_turns.Run.{Put}
-use Rattle.law_machines.specs.kr_view.View.{plain}
-use Rattle.law_machines.specs.pr_start.TracedBeginning.{asks}
-use Rattle.law_machines.specs.pr_top.Opening.{Begun, Loosely, Started, loose_traced_run, opening, report, report_on}
+use Rattle.law_loosely.specs.law_machines.pr_io.Drawn.{Received, SinkFailed, SourceFailed, drawn, gave, received}
+use Rattle.law_loosely.specs.law_machines.pr_io.declared.sink.Sink.{Ghosts as OfSink}
+use Rattle.law_loosely.specs.law_machines.pr_io.declared.source.Source.{Ghosts as OfSource}
+use Rattle.law_loosely.specs.law_machines.pr_sources.declared.answer.Answer.{Answer}
+use Rattle.law_loosely.specs.law_machines.pr_sources.declared.answer.Answer.TheVariants.{Ended, Deadlock, Spent, Usage, TooLong, TreeBad, BadBind, NoStart, ReadFault, WriteFault, NoMemory}
+use Rattle.law_loosely.specs.law_machines.pr_sources.declared.answer.Which.TheVariants.{Out, Err as ErrSink, Left}
+use Rattle.law_loosely.specs.law_machines.pr_sources.Reading.{AllAreRead, IsReadUpTo, Sources}
+use Rattle.law_loosely.specs.law_machines.pr_sources.Within.{IsEarly}
+use Rattle.law_loosely.specs.law_machines.pr_run.Report.{Report}
+use Rattle.law_loosely.specs.law_machines.pr_run.Puts.{Got, GotNone, GotPrefix, PutsTurns, StopsBetween, StopsInCalm, StopsInErr, StopsInOut}
+use Rattle.law_loosely.specs.law_machines.pr_run.Stepping.{TellsQuiet, loose_report}
+use Rattle.law_loosely.specs.law_machines.pr_run.declared.plan.Plan.{Plan}
+use Rattle.law_loosely.specs.law_machines.kr_turns.Run.{Put}
+use Rattle.law_loosely.specs.law_machines.kr_view.View.{plain}
+use Rattle.law_loosely.specs.law_machines.pr_start.TracedBeginning.{asks}
+use Rattle.law_loosely.specs.law_machines.pr_top.Opening.{Begun, Loosely, Started, loose_traced_run, opening, report, report_on}
 
 -- what passed in a call: what the sources gave, and what the sinks got
 pub record Passed : Type 0 where

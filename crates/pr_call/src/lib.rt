@@ -34,6 +34,11 @@
 //! calm (`OpensCalmly`), that is told, as what is opened is: the report of a run over mounts that breaks no calm rule; or the refusal, of bindings
 //! that don't settle or of a start whose walks break none.
 //!
+//! `loose`: where words with `--loose` open a loose run that is quiet, and the run over mounts of the same words and bytes by the slots of its turns
+//! (`image_of`, `mounted_by`) breaks no calm rule, its start included (`OpensQuietly`), what is answered is the answer of that run, or want of memory or a
+//! fault ends it earlier; and after Ended, Deadlock and Spent all bytes of its turns were put, in their order, then the line that the run was quiet, and its
+//! listing, and both trees have the same nodes (`TellsImage`). How the bytes are parted among steps isn't compared.
+//!
 //! Where sources tell what they have left, all this holds of the opening of those bytes (`promises_hold_of_told`).
 //!
 //! Only tested, or not shown: That a run with ample memory doesn't answer NoMemory: `rows`; that each object's failing call gives the answer that
@@ -45,6 +50,6 @@ pub mod laws;
 mod program;
 mod top;
 
-pub use law_machines::below::{Answer, Which};
+pub use law_loosely::below::law_machines::below::{Answer, Which};
 pub use program::run;
 pub use top::proot;

@@ -1,7 +1,7 @@
 //! What the program does: it opens the files, calls the top call, and tells its answer.
 
 use crate::top::proot;
-use law_machines::below::{Answer, FileSink, FileSource, ReplacingSink};
+use law_loosely::below::law_machines::below::{Answer, FileSink, FileSource, ReplacingSink};
 use std::env;
 use std::fs::{File, OpenOptions};
 use std::io::{self, ErrorKind, Write};

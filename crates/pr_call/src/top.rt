@@ -1,18 +1,20 @@
 //! The top call.
 ghost use Rattle.std.specs.Prelude.{◌≡◌, ◌⊎◌, ◌<◌, ◌^◌, Err, length, map};
 ghost use Rattle.std.specs.String.{string_bytes};
-ghost use Rattle.law_machines.specs.pr_io.Drawn.{drawn};
-ghost use Rattle.law_machines.specs.pr_io.Faults.{Rose};
-ghost use Rattle.law_machines.specs.pr_io.Moves.{Stays};
-ghost use Rattle.law_machines.specs.pr_sources.declared.answer.Which.TheVariants.{Tree, Elf, Input, Out, Err as ErrSink, Left};
-ghost use Rattle.law_machines.specs.pr_sources.Asking.{asked};
-ghost use Rattle.law_machines.specs.pr_sources.Reading.{AreDrawn, AsksCase, EndsBeforeElf, EndsBeforeInput, HasCause, IsListed, IsOfWords, IsRefusal, ReadsSources, WantsElf};
-ghost use Rattle.law_machines.specs.pr_sources.Within.{IsAskedWithin};
+ghost use Rattle.law_loosely.specs.law_machines.pr_io.Drawn.{drawn};
+ghost use Rattle.law_loosely.specs.law_machines.pr_io.Faults.{Rose};
+ghost use Rattle.law_loosely.specs.law_machines.pr_io.Moves.{Stays};
+ghost use Rattle.law_loosely.specs.law_machines.pr_sources.declared.answer.Which.TheVariants.{Tree, Elf, Input, Out, Err as ErrSink, Left};
+ghost use Rattle.law_loosely.specs.law_machines.pr_sources.Asking.{asked};
+ghost use Rattle.law_loosely.specs.law_machines.pr_sources.Reading.{AreDrawn, AsksCase, EndsBeforeElf, EndsBeforeInput, HasCause, IsListed, IsOfWords, IsRefusal, ReadsSources, WantsElf};
+ghost use Rattle.law_loosely.specs.law_machines.pr_sources.Within.{IsAskedWithin};
 ghost use Rattle.pr_call.specs.Headline.{Headline};
+ghost use Rattle.pr_call.specs.LooseHeadline.{LooseHeadline};
 ghost use Rattle.pr_call.specs.Promise.{ComesBeforeRun, IsComplete, IsReadThrough, IsTold, Refuses, opened_by, passed};
 
-use law_machines::below::{Answer, Sink, Source, open};
-use law_machines::openings;
+use law_loosely::below::law_machines::below::{Answer, Sink, Source, open};
+use law_loosely::below::law_machines::openings;
+use law_loosely::laws::loose_words_agree;
 use std::alloc::Global;
 
 /// Reads the words, a listing of the host's tree, an ELF file where the listing names it, and an input; settles the bindings that the words
@@ -41,6 +43,11 @@ pub fn proot<T: Source, E: Source, I: Source, O: Sink, R: Sink, L: Sink>(
     // The headline: without `--native` and `--loose`, what is answered and put is what the same words and bytes open over mounts, where that is calm: the report
     // of a run that breaks no calm rule, or a refusal, of bindings that don't settle or of a start whose walks break none.
     ensures headline { Headline (map string_bytes words.now) (passed T.Source tree.old tree.new E.Source elf.old elf.new I.Source input.old input.new
+        O.Sink out.old out.new R.Sink err.old err.new L.Sink left.old left.new) result }
+
+    // The claim on `--loose`: where the loose run that is opened is quiet, and the run over mounts of the same words by the slots of its turns breaks no calm
+    // rule, what is answered and put is that of this run, but for how the bytes are parted, and the nodes of both trees are the same.
+    ensures loose { LooseHeadline (map string_bytes words.now) (passed T.Source tree.old tree.new E.Source elf.old elf.new I.Source input.old input.new
         O.Sink out.old out.new R.Sink err.old err.new L.Sink left.old left.new) result }
 
     // What is answered and put: the opening's refusal, or the report of its run; want of memory or a fault may end it earlier, after a part of it.
@@ -95,6 +102,7 @@ pub fn proot<T: Source, E: Source, I: Source, O: Sink, R: Sink, L: Sink>(
         O.Sink out.old out.new R.Sink err.old err.new L.Sink left.old left.new) result }
 {
     openings::openings_agree();
+    loose_words_agree();
     match open(alloc, words, tree, elf, input) {
         Ok(mut opened) => opened.report(alloc, out, err, left),
         Err(answer) => answer,

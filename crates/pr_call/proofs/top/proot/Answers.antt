@@ -1,13 +1,14 @@
 use Rattle.std.proofs.Common.{inr, map, refl}
 use Rattle.std.specs.String.{string_bytes}
-use Rattle.law_machines.specs.pr_io.Drawn.{gave}
-use Rattle.law_machines.specs.pr_sources.declared.answer.Which.TheVariants.{Tree as TreeSource, Elf, Input, Out, Err as ErrSink, Left}
-use Rattle.law_machines.specs.pr_sources.Asking.{asked}
-use Rattle.law_machines.specs.pr_sources.Within.{IsEarly}
+use Rattle.law_loosely.specs.law_machines.pr_io.Drawn.{gave}
+use Rattle.law_loosely.specs.law_machines.pr_sources.declared.answer.Which.TheVariants.{Tree as TreeSource, Elf, Input, Out, Err as ErrSink, Left}
+use Rattle.law_loosely.specs.law_machines.pr_sources.Asking.{asked}
+use Rattle.law_loosely.specs.law_machines.pr_sources.Within.{IsEarly}
 use Rattle.pr_call.specs.Promise.{NothingIsPut, opened_by, passed}
 use Rattle.pr_call.proofs.HeadlineLemmas.{headline, read-too}
+use Rattle.pr_call.proofs.LooseLemmas.{loose-headline}
 use Rattle.pr_call.proofs.ReportLemmas.{comes-after, no-source-named, read-elf, read-input, refuses-not, run-told}
-use Rattle.pr_call.proofs.TopLemmas.{complete, complete-refused, ends-refused, ends-told, no-write, opening-told, refusal}
+use Rattle.pr_call.proofs.TopLemmas.{complete, complete-refused, early-ends, ends-refused, ends-told, no-write, not-told, opening-told, refusal}
 use Rattle.pr_call.proofs.Utf8Lemmas.{words-bytes}
 use Rattle.pr_call.proofs.top.proot.Goals as goal
 
@@ -25,7 +26,16 @@ returns-in-Ok-clause-headline g c =
     g.O.Sink c.args.out.now c.report.new.out g.R.Sink c.args.err.now c.report.new.err g.L.Sink c.args.left.now c.report.new.left in
     let words = map string_bytes c.args.words.now in
     let bytes = words-bytes c.args.words.now in
-    headline c.openings_agree.ensures words (gave p.sources.tree) (gave p.sources.elf) (gave p.sources.input) bytes ⊥ (read-too c.openings_agree.ensures words (gave p.sources.tree) (gave p.sources.elf) (gave p.sources.input) bytes c.in-Ok.ensures.read)
+    headline c.openings_agree.ensures words (gave p.sources.tree) (gave p.sources.elf) (gave p.sources.input) bytes ⊥ (read-too words (gave p.sources.tree) (gave p.sources.elf) (gave p.sources.input) c.in-Ok.ensures.read)
+    p c.report.result (λ none. absurd none) (run-told c.in-Ok.opened p c.report.result c.report.ensures (opened_by words p.sources) c.in-Ok.ensures.opens)
+
+pub returns-in-Ok-clause-loose : goal.returns-in-Ok-clause-loose
+returns-in-Ok-clause-loose g c =
+    let p = passed g.T.Source c.args.tree.now c.open.new.tree g.E.Source c.args.elf.now c.open.new.elf g.I.Source c.args.input.now c.open.new.input
+    g.O.Sink c.args.out.now c.report.new.out g.R.Sink c.args.err.now c.report.new.err g.L.Sink c.args.left.now c.report.new.left in
+    let words = map string_bytes c.args.words.now in
+    loose-headline c.loose_words_agree.ensures words (gave p.sources.tree) (gave p.sources.elf) (gave p.sources.input) (words-bytes c.args.words.now) ⊥
+    (read-too words (gave p.sources.tree) (gave p.sources.elf) (gave p.sources.input) c.in-Ok.ensures.read)
     p c.report.result (λ none. absurd none) (run-told c.in-Ok.opened p c.report.result c.report.ensures (opened_by words p.sources) c.in-Ok.ensures.opens)
 
 pub returns-in-Ok-clause-complete : goal.returns-in-Ok-clause-complete
@@ -100,6 +110,16 @@ returns-in-Err-clause-headline g c =
     let none : NothingIsPut p = record { out_stays = refl; err_stays = refl; left_stays = refl } in
     headline c.openings_agree.ensures words (gave p.sources.tree) (gave p.sources.elf) (gave p.sources.input) (words-bytes c.args.words.now) (IsEarly a) c.in-Err.ensures.read
     p a (λ early o. opening-told a c.in-Err.ensures.kinds p none o (inr early)) (opening-told a c.in-Err.ensures.kinds p none (opened_by words p.sources) c.in-Err.ensures.opens)
+
+pub returns-in-Err-clause-loose : goal.returns-in-Err-clause-loose
+returns-in-Err-clause-loose g c =
+    let p = passed g.T.Source c.args.tree.now c.open.new.tree g.E.Source c.args.elf.now c.open.new.elf g.I.Source c.args.input.now c.open.new.input
+    g.O.Sink c.args.out.now c.args.out.now g.R.Sink c.args.err.now c.args.err.now g.L.Sink c.args.left.now c.args.left.now in
+    let words = map string_bytes c.args.words.now in
+    let a = c.in-Err.answer in
+    let none : NothingIsPut p = record { out_stays = refl; err_stays = refl; left_stays = refl } in
+    loose-headline c.loose_words_agree.ensures words (gave p.sources.tree) (gave p.sources.elf) (gave p.sources.input) (words-bytes c.args.words.now) (IsEarly a) c.in-Err.ensures.read
+    p a (λ early. (early-ends a early, not-told a c.in-Err.ensures.kinds)) (opening-told a c.in-Err.ensures.kinds p none (opened_by words p.sources) c.in-Err.ensures.opens)
 
 pub returns-in-Err-clause-refusal : goal.returns-in-Err-clause-refusal
 returns-in-Err-clause-refusal g c =

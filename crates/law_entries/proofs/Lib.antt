@@ -1,0 +1,14 @@
+pub use Rattle.law_local.proofs as law_local
+pub mod StayLemmas
+pub mod BeginLemmas
+pub mod WalkLemmas
+pub mod PlanLemmas
+pub mod ExecveBytes
+pub mod ExecveScripts
+pub mod ExecvePlans
+pub mod EntryLemmas
+pub mod ExitLemmas
+pub mod EditLemmas
+pub mod WaitLemmas
+pub mod MarkLemmas
+pub mod LocalLemmas

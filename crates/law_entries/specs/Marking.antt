@@ -1,0 +1,7 @@
+-- A tracer marks no byte.
+use Rattle.law_local.specs.kr_loose.Marks.{MarksNothing}
+use Rattle.pt_tracer.specs.Watched.{tracer}
+
+-- whatever identity it tells
+abbrev pub TracersMarkNothing : Type 0
+TracersMarkNothing = MarksNothing tracer

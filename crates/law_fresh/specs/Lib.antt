@@ -1,0 +1,3 @@
+pub use Rattle.law_beside.specs as law_beside
+pub use Rattle.law_local.specs as law_local
+pub mod Fresh

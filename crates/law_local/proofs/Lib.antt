@@ -1,0 +1,1 @@
+pub use Rattle.kr_loose.proofs as kr_loose

@@ -1,0 +1,3 @@
+//! What those above name of the crates below.
+
+pub use law_entries;
