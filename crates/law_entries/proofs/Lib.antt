@@ -9,6 +9,7 @@ pub mod ExecvePlans
 pub mod EntryLemmas
 pub mod ExitLemmas
 pub mod EditLemmas
+pub mod NumberLemmas
 pub mod WaitLemmas
 pub mod MarkLemmas
 pub mod LocalLemmas

@@ -9,7 +9,6 @@ use Rattle.pt_tracer.specs.pt_bind.Tags.{TagTable, tag_of, with_tag}
 use Rattle.pt_tracer.proofs.pt_bind.TagLemmas.{tags_change}
 use Rattle.pt_tracer.specs.pt_bind.declared.slot.Slot.TheVariants.{Exe}
 use Rattle.pt_tracer.specs.pt_results.kr_calls.declared.request.Request.{Request}
-use Rattle.pt_tracer.specs.pt_args.Laws.{EditsKeepToPaths}
 use Rattle.pt_tracer.specs.pt_faker.Stopping.{after_request, decoded_at, register_at}
 use Rattle.pt_tracer.specs.pt_ident.IdentityTable.{IdentityTable, after_birth, after_end}
 use Rattle.pt_tracer.specs.Watched.{Tracing, after_decoding, after_pending, answer_at, begin_as, begin_program, born, by_identities, entered, exited, give_back, gone, has_begun, remembered_in, returned, shown_to, with_tags, without_pending}
@@ -146,8 +145,8 @@ gone-fits x pid none = ap (option_map (after_end pid)) none
 
 -- ---- all together
 
-pub tracers-are-local : EditsKeepToPaths → ExecvePlansLast → TracersAreLocal
-tracers-are-local keep execves = record {
+pub tracers-are-local : ExecvePlansLast → TracersAreLocal
+tracers-are-local execves = record {
   entry_lasts = λ x y pid s t none also part stays quiet.
       let lasts = entries-last execves x y pid s t (goes-by pid x y none also part) stays quiet in
       record { image = lasts.image; kept = lasts.pending; unmet = lasts.asks };
@@ -155,7 +154,7 @@ tracers-are-local keep execves = record {
   entry_fits = λ x t none. (entry-keeps x t none).none;
   entry_part = λ x t q none. entry-part x t q none;
   entry_kept = λ x t q none other. (entry-keeps x t none).pending q other;
-  entry_waits = λ x t r none there given may. entry-waits keep x t r none there given may;
+  entry_waits = λ x t r none there given may. entry-waits x t r none there given may;
   exit_alike = λ x y t u none also one part kept handed image.
       let alike = exits-go-by-own x y t u one (goes-by t.pid x y none also part) kept handed image in
       record {

@@ -1,13 +1,10 @@
 -- A call that can wait was left as it was at its first stop: it has the number of a call without a path, and no first stop gives a call such a number.
-use Rattle.std.proofs.Common.{◌≡◌, ◌≢◌, inl, inr, ◌⊎◌, ℕ, zero, suc, ◌+◌, ◌-◌, Bool, true, false, not, ◌||◌, cond, List, [], ◌∷◌, length, Option, Some, None, Result, Ok, Err, pos, get_or, refl, sym, ap, subst, ◌∙◌}
+use Rattle.std.proofs.Common.{◌≡◌, ◌≢◌, inl, inr, ◌⊎◌, ℕ, zero, suc, ◌+◌, ◌-◌, Bool, true, false, ◌||◌, cond, List, [], ◌∷◌, length, Option, Some, None, Result, Ok, Err, pos, get_or, refl, sym, ap, subst, ◌∙◌}
 use Rattle.std.specs.Prelude.{◌==◌, nat_lt, slice_set}
 use Rattle.std.specs.List.{list_all}
 use Rattle.std.specs.Option.{unwrap_or, option_map_or}
 use Rattle.std.proofs.lemmas.Bool.{and_parts}
 use Rattle.std.proofs.lemmas.List.{get_or-set_other}
-use Rattle.std.proofs.lemmas.List.Elements.{All-weaker}
-use Rattle.std.proofs.lemmas.List.Sums.{list_all-from_AllPass}
-use Rattle.std.proofs.lemmas.Option.{same_Some}
 use Rattle.pt_tracer.specs.pr_base.MountText.{MountText}
 use Rattle.pt_tracer.specs.pr_base.Paths.{is_absolute}
 use Rattle.pt_tracer.specs.pr_base.Texts.{Text}
@@ -26,15 +23,14 @@ use Rattle.pt_tracer.specs.pt_canon.Canon.{canon_of}
 use Rattle.pt_tracer.specs.pt_canon.TextWalk.{TextSurroundings}
 use Rattle.pt_tracer.specs.pt_canon.declared.canon.Canon.{Canon}
 use Rattle.pt_tracer.specs.pt_results.kr_calls.Arguments.{has_other, int, long, number, word}
-use Rattle.pt_tracer.specs.pt_results.kr_calls.CallTable.{line, paths_of}
+use Rattle.pt_tracer.specs.pt_results.kr_calls.CallTable.{line}
 use Rattle.pt_tracer.specs.pt_results.kr_calls.Decoding.{accepts, decoding_of, unless, wait_flags}
-use Rattle.pt_tracer.specs.pt_results.kr_calls.PathTable.{PathUse, path_at, path_from}
+use Rattle.pt_tracer.specs.pt_results.kr_calls.PathTable.{PathUse, path_at}
 use Rattle.pt_tracer.specs.pt_results.kr_calls.declared.request.Request.{Request}
 use Rattle.pt_tracer.specs.pt_results.kr_calls.declared.request.Request.TheVariants as call
 use Rattle.law_local.proofs.kr_loose.kr_turns.kr_calls.DecodingLemmas.{decoded_are_numbered}
 use Rattle.pt_tracer.specs.pt_args.Bases.{working_text}
 use Rattle.pt_tracer.specs.pt_args.Edits.{longest_path}
-use Rattle.pt_tracer.specs.pt_args.Laws.{EditsKeepToPaths, IsPathRegister}
 use Rattle.pt_tracer.specs.pt_args.Shelving.{shelf_size, with_zero}
 use Rattle.pt_tracer.specs.pt_args.Walks.{walked}
 use Rattle.pt_tracer.specs.pt_args.declared.edit.Edit.{Edit}
@@ -63,6 +59,7 @@ use Rattle.law_local.specs.kr_model.State.{Image, Process, process}
 use Rattle.law_local.specs.kr_stops.Stopped.{IsThere, Stopped, image_at, image_in, no_image}
 use Rattle.law_entries.proofs.EditLemmas.{entry-left}
 use Rattle.law_entries.proofs.ExitLemmas.{image-register}
+use Rattle.law_entries.proofs.NumberLemmas.{KeepsNumber, either-keeps, is_apart, is_other, swaps-keep}
 use Rattle.law_entries.proofs.StayLemmas.{image-computed, image_of}
 
 impossible : {A : Type 0} → false ≡ true → A
@@ -110,43 +107,8 @@ passes x t _ may = impossible may
 
 -- ---- edits that leave the register of the number
 
-abbrev is_other : ℕ × ℕ → Bool
-is_other p = not (p.0 == 17)
-
-abbrev KeepsNumber : Edit → Type 0
-KeepsNumber Pass = Unit {0}
-KeepsNumber (Swap regs pokes) = list_all is_other regs ≡ true
-KeepsNumber (Cancel e) = Unit {0}
-KeepsNumber (Emulate pokes answer) = Unit {0}
-
-other-register : (k : ℕ) → not (k == 17) ≡ true → 17 ≢ k
-other-register k e same = absurd (let clash : false ≡ true = ap (λ n. not (n == 17)) same ∙ e in cc)
-
--- the registers of paths are others
-paths-other : (r : Request) → list_all (λ (u : PathUse). not (u.register == 17)) (paths_of (line r).told) ≡ true
-paths-other (call.Dup fd) = refl
-paths-other _ = refl
-
-path-other : (us : List PathUse) → list_all (λ (u : PathUse). not (u.register == 17)) us ≡ true → (i k : ℕ) (u : PathUse) → path_from i us k ≡ Some u → not (u.register == 17) ≡ true
-path-other [] all i k u e = absurd cc
-path-other (v ∷ us) all i k u e =
-    let parts = and_parts (not (v.register == 17)) (list_all (λ (u : PathUse). not (u.register == 17)) us) all in
-    by parts.0 (path-other us parts.1 (i + 1) k u) (k == i) e
-  where
-    by : not (v.register == 17) ≡ true → (path_from (i + 1) us k ≡ Some u → not (u.register == 17) ≡ true) → (b : Bool) → cond b (Some v) (path_from (i + 1) us k) ≡ Some u → not (u.register == 17) ≡ true
-    by own later true e = ap (λ (u : PathUse). not (u.register == 17)) (sym (same_Some v u e)) ∙ own
-    by own later false e = later e
-
-register-other : (r : Request) (register : ℕ) → IsPathRegister r register → not (register == 17) ≡ true
-register-other r register is = ap (λ k. not (k == 17)) (sym is.2) ∙ by is.1
-  where
-    by : (path_at r 0 ≡ Some is.0) ⊎ (path_at r 1 ≡ Some is.0) → not (is.0.register == 17) ≡ true
-    by (inl first) = path-other (paths_of (line r).told) (paths-other r) 0 0 is.0 first
-    by (inr second) = path-other (paths_of (line r).told) (paths-other r) 0 1 is.0 second
-
-either-keeps : (b : Bool) (one two : Edit) → KeepsNumber one → KeepsNumber two → KeepsNumber (cond b one two)
-either-keeps true one two first second = first
-either-keeps false one two first second = second
+other-register : (k : ℕ) → is_apart k ≡ true → 17 ≢ k
+other-register k e same = absurd (let clash : false ≡ true = ap is_apart same ∙ e in cc)
 
 -- ---- plans
 
@@ -233,18 +195,9 @@ either-plan : (b : Bool) (t : Stopped) (p q : Plan × Stopped) → PlanKeeps t p
 either-plan true t p q first second = first
 either-plan false t p q first second = second
 
-module _ (keep : EditsKeepToPaths) (bindings : List MountText) (tags : TagTable) where
+module _ (bindings : List MountText) (tags : TagTable) where
   rewritten-keeps : (t : Stopped) (r : Request) → KeepsNumber (rewritten (texts_at bindings tags t) t r)
-  rewritten-keeps t r = by (rewritten (texts_at bindings tags t) t r) refl
-    where
-      by : (e : Edit) → rewritten (texts_at bindings tags t) t r ≡ e → KeepsNumber e
-      by Pass is = tt
-      by (Swap regs pokes) is =
-          list_all-from_AllPass is_other regs
-          (All-weaker (λ (p : ℕ × ℕ). IsPathRegister r p.0) (λ (p : ℕ × ℕ). is_other p ≡ true) (λ p own. register-other r p.0 own) regs
-          (keep.registers (texts_at bindings tags t) t.pid (stack_at t) (has_shelf t) r regs pokes is))
-      by (Cancel e) is = tt
-      by (Emulate pokes answer) is = tt
+  rewritten-keeps t r = swaps-keep (stack_at t) (has_shelf t) (texts_at bindings tags t) t.pid r
 
   plain-keeps : (t : Stopped) (r : Request) → KeepsNumber (edit_for (texts_at bindings tags t) t r)
   plain-keeps t r = unless-keeps (texts_at bindings tags t) (answered (texts_at bindings tags t) t r) (rewritten (texts_at bindings tags t) t r) (answer-keeps (texts_at bindings tags t) t r) (rewritten-keeps t r)
@@ -343,11 +296,11 @@ applied-kept (Emulate pokes answer) t keeps = by (may_poke pokes t)
 
 -- ---- the first stop
 
-module _ (keep : EditsKeepToPaths) (x : Tracing) where
+module _ (x : Tracing) where
   call-kept : (r : Request) (t : Stopped) → IsKeptNumber t (by_identities x r t None).1
   call-kept r t =
       let plan = planned x.bindings x.tags t r in
-      let keeps = planned-keeps keep x.bindings x.tags t r in
+      let keeps = planned-keeps x.bindings x.tags t r in
       kept-then t plan.1 (applied plan.0.edit plan.1).stopped keeps.number (applied-kept plan.0.edit plan.1 keeps.edit)
 
   module _ (t : Stopped) (there : IsThere t) (none : x.identities ≡ None) (r : Request) (may : may_wait r ≡ true) where

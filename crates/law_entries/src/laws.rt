@@ -3,8 +3,6 @@ ghost use Rattle.law_entries.specs.Lasting.{EntriesLast, ExitsGoByOwn, PlansLast
 ghost use Rattle.law_entries.specs.Marking.{TracersMarkNothing};
 ghost use Rattle.law_entries.specs.Traced.{TracersAreLocal};
 
-use pt_results::below::edits_keep_to_paths;
-
 /// The plan of each call but execve(2) lasts.
 pub fn plans_last()
     ensures { PlansLast }
@@ -23,9 +21,7 @@ pub fn exits_go_by_own()
 /// A tracer without an identity is local.
 pub fn tracers_are_local()
     ensures { TracersAreLocal }
-{
-    edits_keep_to_paths();
-}
+{}
 
 /// At no stop a byte is marked.
 pub fn tracers_mark_nothing()

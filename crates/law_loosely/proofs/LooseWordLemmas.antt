@@ -12,7 +12,7 @@ use Rattle.law_turnwise.specs.law_machines.pr_start.Beginning.{beginning}
 use Rattle.law_turnwise.specs.law_machines.pr_start.Machines.{Nobody, Watch}
 use Rattle.law_turnwise.specs.law_machines.pr_start.TracedBeginning.{Tracing, asks, start_meets, traced_beginning}
 use Rattle.law_turnwise.specs.law_machines.pr_top.pr_base.declared.errno.Errno.{Errno}
-use Rattle.law_turnwise.specs.law_machines.pr_top.Opening.{Begun, Loosely, Mounts, Traced, begins, begun, begun_as, launch_of, loose_traced_run, loosened_plan, meets, meets_over, over, plan_of, started_as, started_on, stepwise_begun, watch_for}
+use Rattle.law_turnwise.specs.law_machines.pr_top.Opening.{Begun, Both, Loosely, Mounts, Started, Traced, begins, begun, begun_as, launch_of, loose_traced_run, loosened_plan, meets, meets_over, over, plan_of, started_as, started_on, stepwise_begun, watch_for}
 use Rattle.law_turnwise.specs.law_machines.pr_words.declared.launch.Launch.{Launch}
 use Rattle.law_turnwise.specs.law_machines.pr_words.declared.options.Slot.{Slot}
 use Rattle.law_turnwise.specs.law_machines.Agreeing.{CanBeTold}
@@ -20,6 +20,7 @@ use Rattle.law_turnwise.specs.law_machines.Given.{CanBegin, settled_in}
 use Rattle.law_turnwise.specs.law_machines.Openings.{asked_on, over_mounts}
 use Rattle.law_turnwise.proofs.law_machines.GivenLemmas.{given-is-opening}
 use Rattle.law_turnwise.specs.law_midway.law_turns.pt_args.Laws.{ShelvesHoldTheirItems, TextsAreReadBack}
+use Rattle.law_traced.specs.law_entries.Traced.{TracersAreLocal}
 use Rattle.law_traced.specs.law_loose.kr_loose.Quiet.{IsQuiet}
 use Rattle.law_loosely.specs.Loosely.{IsCalmBy, IsImageOf, LooseMachinesAgree, image_of, mounted_by}
 use Rattle.law_loosely.specs.LooseWords.{BeginLoosely, LooseWordsAgree}
@@ -35,10 +36,18 @@ pub record BeginsOver (settled : List Row) (tree : Tree) (user : User) (launch :
   pub begins : beginning settled tree user Nobody launch input ≡ Ok m
   pub table_is : settled ≡ table
 
+abbrev IsTraced : Started → Type 0
+IsTraced (Traced m) = Unit {0}
+IsTraced (Mounts table m) = ⊥
+IsTraced (Loosely met m) = ⊥
+IsTraced (Both n m table k) = ⊥
+
 -- those of single steps, and no others, go by single steps
 loosely-is : (loose : List Slot) (met also : Bool) (own plan : Plan) (k n : Machine Tracing) → stepwise_begun loose met (Ok (record { plan = own; started = Traced k })) ≡ Ok (record { plan = plan; started = Loosely also n })
     → (met ≡ also) × (k ≡ n) × (own.turns ≡ plan.turns)
-loosely-is [] met also own plan k n e = absurd cc
+loosely-is [] met also own plan k n e =
+    let same : record { plan = loosened_plan [] own; started = Traced k } ≡ record { plan = plan; started = Loosely also n } = cc in
+    absurd (subst IsTraced (ap (λ (b : Begun). b.started) same) tt)
 loosely-is (slot ∷ slots) met also own plan k n e =
     let same : record { plan = loosened_plan (slot ∷ slots) own; started = Loosely met k } ≡ record { plan = plan; started = Loosely also n } = cc in
     let started : Loosely met k ≡ Loosely also n = ap (λ (b : Begun). b.started) same in
@@ -119,6 +128,6 @@ module _ (a : Asked) (settled : List Row) (settles : (settled_in a).answer ≡ O
         subst (λ (t : List Row). IsImageOf (loose_traced_run plan n) (mounted_by (image_of (loose_traced_run plan n)) t m)) other.table_is
         (agree plan settled tree a.user launch a.input (can-be-told plan one.turns_are) m n other.begins one.begins quiet_here calm_here)
 
-pub loose-words-agree : TextsAreReadBack → ShelvesHoldTheirItems → LooseWordsAgree
-loose-words-agree back shelves words tree elf input o a settled given traced untold plan met n own table m begin quiet calm =
-    words-agree a settled given.settles traced untold (loose-machines-agree back shelves) (given-is-opening words tree elf input o a settled given) plan met n own table m begin quiet calm
+pub loose-words-agree : TextsAreReadBack → ShelvesHoldTheirItems → TracersAreLocal → LooseWordsAgree
+loose-words-agree back shelves local words tree elf input o a settled given traced untold plan met n own table m begin quiet calm =
+    words-agree a settled given.settles traced untold (loose-machines-agree back shelves local) (given-is-opening words tree elf input o a settled given) plan met n own table m begin quiet calm

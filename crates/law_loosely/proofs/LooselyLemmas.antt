@@ -21,13 +21,13 @@ use Rattle.law_turnwise.specs.Turnwise.{GoesAlong}
 use Rattle.law_turnwise.proofs.TurnwiseLemmas.{calm-runs-last}
 use Rattle.law_traced.specs.Staying.{IsGood, IsTame}
 use Rattle.law_traced.specs.law_entries.Lasting.{StaysFor}
-use Rattle.law_traced.specs.law_entries.Traced.{TellsNoIdentity, tracer_locality}
+use Rattle.law_traced.specs.law_entries.Traced.{TellsNoIdentity, TracersAreLocal}
 use Rattle.law_traced.specs.law_loose.kr_loose.LooseRun.{LooseRan, loosened}
 use Rattle.law_traced.specs.law_loose.kr_loose.Quiet.{IsQuiet}
 use Rattle.law_traced.specs.law_loose.kr_loose.Slots.{slot_of_turn, slots_of_steps}
 use Rattle.law_traced.specs.law_loose.Images.{CanBegin, ComeToSame, all_err, all_out}
 use Rattle.law_loosely.proofs.SceneLemmas.{traced-runs-are-their-images}
-use Rattle.law_traced.proofs.law_entries.MarkLemmas.{tracers_mark_nothing}
+use Rattle.law_traced.proofs.law_entries.MarkLemmas.{tracers-mark-nothing}
 use Rattle.law_traced.proofs.law_loose.law_local.kr_loose.MarkTurnLemmas.{runs-mark-nothing}
 use Rattle.law_loosely.specs.Loosely.{IsCalmBy, IsImageOf, LooseMachinesAgree, image_of, mounted_by}
 use Rattle.law_loosely.proofs.FewLemmas.{loosely-few}
@@ -45,7 +45,7 @@ all-errs (put ∷ puts) = ap (λ rest. put.err ++ rest) (all-errs puts)
 
 -- ---- a loose run and its image
 
-module _ (back : TextsAreReadBack) (shelves : ShelvesHoldTheirItems) (plan : Plan) (table : List Row) (tree : Tree) (user : User) (launch : Launch) (input : List ℕ) (can : CanBeTold plan table tree user launch input)
+module _ (back : TextsAreReadBack) (shelves : ShelvesHoldTheirItems) (local : TracersAreLocal) (plan : Plan) (table : List Row) (tree : Tree) (user : User) (launch : Launch) (input : List ℕ) (can : CanBeTold plan table tree user launch input)
     (m : Machine Watch) (n : Machine Tracing) (begins : beginning table tree user Nobody launch input ≡ Ok m) (traced : traced_beginning (texts_of table) tree user None launch input ≡ Ok n) where
   abbrev met : Bool
   met = start_meets (texts_of table) tree user launch
@@ -85,11 +85,11 @@ module _ (back : TextsAreReadBack) (shelves : ShelvesHoldTheirItems) (plan : Pla
   good-at : IsCalmBy image table m → (made : ℕ) → made ≤ length image → IsGood (run tracer 0 plain (slot_of_turn image) made n).machine
   good-at calm made less = record {
     lawful = ((along calm).lasts made less).lasts.lawful;
-    unmarked = runs-mark-nothing Tracing tracer tracers_mark_nothing plain (slot_of_turn image) made n fresh.fresh.unmarked;
+    unmarked = runs-mark-nothing Tracing tracer tracers-mark-nothing plain (slot_of_turn image) made n fresh.fresh.unmarked;
   }
 
   come-to-same : IsQuiet asks 0 plain met loose.left.steps → IsCalmBy image table m → ComeToSame turns loose
-  come-to-same quiet calm = traced-runs-are-their-images (slot_of plan.schedule) plan.turns met n (can-begin quiet) quiet (good-at calm)
+  come-to-same quiet calm = traced-runs-are-their-images local (slot_of plan.schedule) plan.turns met n (can-begin quiet) quiet (good-at calm)
 
   agree : IsQuiet asks 0 plain met loose.left.steps → IsCalmBy image table m → IsImageOf loose (mounted_by image table m)
   agree quiet calm =
@@ -103,5 +103,5 @@ module _ (back : TextsAreReadBack) (shelves : ShelvesHoldTheirItems) (plan : Pla
         trees = ap nodes come.tree ∙ sym alike.trees;
       }
 
-pub loose-machines-agree : TextsAreReadBack → ShelvesHoldTheirItems → LooseMachinesAgree
-loose-machines-agree back shelves plan table tree user launch input can m n begins traced quiet calm = agree back shelves plan table tree user launch input can m n begins traced quiet calm
+pub loose-machines-agree : TextsAreReadBack → ShelvesHoldTheirItems → TracersAreLocal → LooseMachinesAgree
+loose-machines-agree back shelves local plan table tree user launch input can m n begins traced quiet calm = agree back shelves local plan table tree user launch input can m n begins traced quiet calm

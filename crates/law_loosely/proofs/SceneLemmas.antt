@@ -3,16 +3,15 @@ use Rattle.law_turnwise.specs.law_machines.kr_view.View.{plain}
 use Rattle.law_turnwise.specs.law_machines.pr_start.TracedBeginning.{Tracing, asks, tracer}
 use Rattle.law_traced.specs.Staying.{IsGood, IsTame}
 use Rattle.law_traced.specs.law_entries.Lasting.{StaysFor}
-use Rattle.law_traced.specs.law_entries.Traced.{TellsNoIdentity, tracer_locality}
+use Rattle.law_traced.specs.law_entries.Traced.{TellsNoIdentity, TracersAreLocal, tracer_locality}
 use Rattle.law_traced.specs.law_loose.Images.{LooseRunsAreTheirImages}
 use Rattle.law_traced.proofs.StayLemmas.{tracers_stay_beside}
-use Rattle.law_traced.proofs.law_entries.LocalLemmas.{tracers_are_local}
-use Rattle.law_traced.proofs.law_entries.MarkLemmas.{tracers_mark_nothing}
+use Rattle.law_traced.proofs.law_entries.MarkLemmas.{tracers-mark-nothing}
 use Rattle.law_traced.proofs.law_loose.BesidesLemmas.{all-beside}
 use Rattle.law_traced.proofs.law_loose.RunLemmas.{loose-runs-are-their-images}
 
-pub traced-runs-are-their-images : LooseRunsAreTheirImages tracer asks tracer_locality TellsNoIdentity IsGood IsTame plain
-traced-runs-are-their-images = loose-runs-are-their-images (record {
+pub traced-runs-are-their-images : TracersAreLocal → LooseRunsAreTheirImages tracer asks tracer_locality TellsNoIdentity IsGood IsTame plain
+traced-runs-are-their-images local = loose-runs-are-their-images (record {
   f = tracer;
   asks = asks;
   l = tracer_locality;
@@ -21,6 +20,6 @@ traced-runs-are-their-images = loose-runs-are-their-images (record {
   Good = IsGood;
   Tame = IsTame;
   table = plain;
-  scene = record { local = tracers_are_local; marks = tracers_mark_nothing; stays = tracers_stay_beside };
+  scene = record { local = local; marks = tracers-mark-nothing; stays = tracers_stay_beside };
   below = all-beside Tracing;
 })

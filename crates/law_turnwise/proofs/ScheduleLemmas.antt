@@ -1,5 +1,5 @@
 -- A schedule of as many slots as there are turns is used once.
-use Rattle.std.proofs.Common.{◌≡◌, ◌%◌, ◌<◌, ℕ, suc, List, [], ◌∷◌, length, get_or, map, sym, ap, subst, ◌∙◌, arith, mod-eq_of_lt}
+use Rattle.std.proofs.Common.{◌≡◌, ◌%◌, ◌<◌, ℕ, suc, List, [], ◌∷◌, length, get_or, map, refl, sym, ap, subst, ◌∙◌, arith, mod-eq_of_lt}
 use Rattle.std.proofs.lemmas.List.{get_or_default}
 use Rattle.law_machines.specs.kr_turns.Run.{Slot, run}
 use Rattle.law_machines.specs.kr_turns.Turn.{Machine}

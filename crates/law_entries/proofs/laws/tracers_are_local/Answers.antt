@@ -3,4 +3,4 @@ use Rattle.law_entries.proofs.LocalLemmas.{tracers-are-local}
 use Rattle.law_entries.proofs.laws.tracers_are_local.Goals as goal
 
 pub returns : goal.returns
-returns c = tracers-are-local c.edits_keep_to_paths.ensures execve-plans-last
+returns c = tracers-are-local execve-plans-last

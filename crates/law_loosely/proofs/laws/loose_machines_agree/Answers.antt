@@ -2,4 +2,4 @@ use Rattle.law_loosely.proofs.LooselyLemmas.{loose-machines-agree}
 use Rattle.law_loosely.proofs.laws.loose_machines_agree.Goals as goal
 
 pub returns : goal.returns
-returns c = loose-machines-agree c.texts_are_read_back.ensures c.shelves_hold_their_items.ensures
+returns c = loose-machines-agree c.texts_are_read_back.ensures c.shelves_hold_their_items.ensures c.tracers_are_local.ensures
