@@ -17,7 +17,7 @@
 //!
 //! The room is raised by exactly the image's pages, and after a refusal it is as before (`room`, `err_room`).
 //!
-//! Only tested, or not shown: `elf_tests`.
+//! Only tested, or not shown: `rv_tests`.
 #![tactic(auto)]
 
 mod arguments;

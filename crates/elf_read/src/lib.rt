@@ -12,7 +12,7 @@
 //! The segments of an accepted file lie in their range of addresses, in the file and in order, with sizes and places that fit together (`sound`,
 //! `ordered`).
 //!
-//! Only tested, or not shown: `elf_tests`.
+//! Only tested, or not shown: `rv_tests`.
 #![tactic(auto)]
 
 pub mod below;

@@ -9,7 +9,7 @@
 //! `write` makes a file of exactly the bytes of the definition (`whole`), which `check` accepts (`accepted`), with these segments, this entry,
 //! the code at its place and the data behind it (`segments`, `entry`, `table`, `headers`, `code`, `init`).
 //!
-//! Only tested, or not shown: `elf_tests`.
+//! Only tested, or not shown: `rv_tests`.
 #![tactic(auto)]
 
 mod layout;

@@ -22,3 +22,4 @@ pub mod Laws
 pub mod Marks
 pub mod Parting
 pub mod WaitingCalls
+pub mod Local

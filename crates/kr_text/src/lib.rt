@@ -18,7 +18,7 @@
 //! (`CanBeListed`: its numbers, modes, texts and paths are such as lines can have, and the limits are kept also where a link counts once for each
 //! of its names); what else it takes, every tree of the code has (`trees_are_kept`).
 //!
-//! Only tested, or not shown: `tree_tests`: a whole listing read and written in order (worked out by hand), the largest file and a listing with a
+//! Only tested, or not shown: `ground_tests`: a whole listing read and written in order (worked out by hand), the largest file and a listing with a
 //! link too many, a tree 20,000 deep.
 #![tactic(auto)]
 

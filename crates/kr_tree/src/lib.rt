@@ -29,7 +29,7 @@
 //! directory stands in exactly one entry or none, going up from it ends at the root or at a removed one, serials rise, names, files and texts are
 //! of bytes below 256, and the counts and limits hold.
 //!
-//! Only tested, or not shown: `tree_tests`: Full by names, by inodes and by bytes.
+//! Only tested, or not shown: `ground_tests`: Full by names, by inodes and by bytes.
 #![tactic(auto)]
 
 pub mod below;

@@ -28,7 +28,7 @@
 //! stands there says (`entries_are_found`), with `.` behind it as search says (`directories_are_searched`), and with more behind it as that does
 //! from there (`walks_go_on_behind_texts`).
 //!
-//! Only tested, or not shown: `view_tests`.
+//! Only tested, or not shown: `ground_tests`.
 #![tactic(auto)]
 
 pub mod below;

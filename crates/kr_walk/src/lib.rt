@@ -11,7 +11,7 @@
 //! mount's location, whatever it is named now; what is no directory and remembers no entry has no guest name; what is below has the location
 //! followed by the names from the source down; over the host's own view it is the host name (`guest_names_go_by_places`).
 //!
-//! Only tested, or not shown: `view_tests`: walks over a tree that is made, in each mode, and what they reach.
+//! Only tested, or not shown: `ground_tests`: walks over a tree that is made, in each mode, and what they reach.
 #![tactic(auto)]
 
 pub mod below;

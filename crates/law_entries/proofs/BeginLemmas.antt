@@ -14,21 +14,21 @@ use Rattle.pt_tracer.specs.pt_results.kr_calls.PathTable.{PathUse}
 use Rattle.pt_tracer.specs.pt_args.Bases.{base_of, descriptor_base, descriptor_number, is_working_directory, numbered_base, or_lost, tagged_text, working_text}
 use Rattle.pt_tracer.specs.Planning.{texts_at}
 use Rattle.pt_tracer.proofs.law_steady.NameLemmas.{host_names_last}
-use Rattle.law_local.specs.kr_model.kr_files.declared.opened.Opened.{Opened}
-use Rattle.law_local.specs.kr_model.FileRows.{is_dir}
-use Rattle.law_local.specs.kr_model.HostView.{base_name, cwd_name, host_space, open_name}
-use Rattle.law_local.specs.kr_model.Peeks.{kind_of_base}
-use Rattle.law_local.specs.kr_model.ProcessDirectory.{name_text, remembered}
-use Rattle.law_local.specs.kr_model.State.{Image, Process, State, opened, process}
-use Rattle.law_local.specs.kr_tree.Tree.{body_is, is_directory}
-use Rattle.law_local.specs.kr_tree.declared.place.Host.{Host}
-use Rattle.law_local.specs.kr_tree.declared.place.Host.TheVariants.{Node}
-use Rattle.law_local.specs.kr_tree.declared.place.Place.{Place}
-use Rattle.law_local.specs.kr_view.Component.{is_directory_at}
-use Rattle.law_local.specs.kr_view.HostReach.{host_place}
-use Rattle.law_local.specs.kr_view.Names.{guest_directory, guest_entry}
-use Rattle.law_local.specs.kr_view.View.{plain_row}
-use Rattle.law_local.specs.kr_stops.Stopped.{Stopped}
+use Rattle.kr_loose.specs.kr_model.kr_files.declared.opened.Opened.{Opened}
+use Rattle.kr_loose.specs.kr_model.FileRows.{is_dir}
+use Rattle.kr_loose.specs.kr_model.HostView.{base_name, cwd_name, host_space, open_name}
+use Rattle.kr_loose.specs.kr_model.Peeks.{kind_of_base}
+use Rattle.kr_loose.specs.kr_model.ProcessDirectory.{name_text, remembered}
+use Rattle.kr_loose.specs.kr_model.State.{Image, Process, State, opened, process}
+use Rattle.kr_loose.specs.kr_tree.Tree.{body_is, is_directory}
+use Rattle.kr_loose.specs.kr_tree.declared.place.Host.{Host}
+use Rattle.kr_loose.specs.kr_tree.declared.place.Host.TheVariants.{Node}
+use Rattle.kr_loose.specs.kr_tree.declared.place.Place.{Place}
+use Rattle.kr_loose.specs.kr_view.Component.{is_directory_at}
+use Rattle.kr_loose.specs.kr_view.HostReach.{host_place}
+use Rattle.kr_loose.specs.kr_view.Names.{guest_directory, guest_entry}
+use Rattle.kr_loose.specs.kr_view.View.{plain_row}
+use Rattle.kr_loose.specs.kr_stops.Stopped.{Stopped}
 use Rattle.law_entries.specs.Lasting.{SameTags, StaysAt, StaysFor, open_of, own_of}
 
 -- a directory has its name by the tree, whatever entry is remembered of it

@@ -34,8 +34,8 @@ use Rattle.pt_tracer.specs.declared.plan.Plan.{Plan}
 use Rattle.pt_tracer.specs.declared.registers.Arguments.{Arguments}
 use Rattle.pt_tracer.proofs.kr_stops.EditLemmas.{computed-lives, edited-by, edited-same, edited-then, edited-twice, image-edited}
 use Rattle.pt_tracer.proofs.law_lawful.ProcessChangeLemmas.{pids-same}
-use Rattle.law_local.specs.kr_model.State.{Image, Process}
-use Rattle.law_local.specs.kr_stops.Stopped.{IsEdited, IsThere, Stopped, edited, image_at}
+use Rattle.kr_loose.specs.kr_model.State.{Image, Process}
+use Rattle.kr_loose.specs.kr_stops.Stopped.{IsEdited, IsThere, Stopped, edited, image_at}
 use Rattle.law_entries.proofs.StayLemmas.{with_own}
 
 -- ---- memories

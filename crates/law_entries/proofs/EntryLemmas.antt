@@ -16,7 +16,7 @@ use Rattle.pt_tracer.specs.pt_results.kr_calls.CallTable.{line}
 use Rattle.pt_tracer.specs.pt_results.kr_calls.Decoding.{Decoded}
 use Rattle.pt_tracer.specs.pt_results.kr_calls.declared.request.Request.{Request}
 use Rattle.pt_tracer.specs.pt_results.kr_calls.declared.request.Request.TheVariants as call
-use Rattle.law_local.proofs.kr_loose.kr_turns.kr_calls.DecodingLemmas.{decoded_are_numbered}
+use Rattle.kr_loose.proofs.kr_turns.kr_calls.DecodingLemmas.{decoded_are_numbered}
 use Rattle.pt_tracer.specs.pt_args.declared.edit.Edit.{Edit}
 use Rattle.pt_tracer.specs.pt_args.declared.edit.Edit.TheVariants.{Cancel, Emulate, Pass, Swap}
 use Rattle.pt_tracer.specs.pt_faker.Faking.{no_call, no_longer_called}
@@ -28,10 +28,10 @@ use Rattle.pt_tracer.specs.Registers.{arguments_at, is_register, with_argument, 
 use Rattle.pt_tracer.specs.Watched.{Applied, Tracing, after_decoding, after_plan, applied, awaiting, by_identities, entered, entry_unmet, is_execve, refused, unmet_behind_decoding, unmet_by_identities}
 use Rattle.pt_tracer.specs.declared.pending.Pending.{Pending}
 use Rattle.pt_tracer.specs.declared.plan.Plan.{Plan}
-use Rattle.law_local.specs.kr_core.Moving.{calls_execve}
-use Rattle.law_local.specs.kr_model.State.{Image, State}
-use Rattle.law_local.specs.kr_stops.Stopped.{Stopped, image_at, image_in}
-use Rattle.law_local.specs.kr_turns.Turn.{calling}
+use Rattle.kr_loose.specs.kr_core.Moving.{calls_execve}
+use Rattle.kr_loose.specs.kr_model.State.{Image, State}
+use Rattle.kr_loose.specs.kr_stops.Stopped.{Stopped, image_at, image_in}
+use Rattle.kr_loose.specs.kr_turns.Turn.{calling}
 use Rattle.law_entries.specs.Lasting.{EntriesLast, ExecvePlansLast, GoesBySame, PlanLasts, StaysAt}
 use Rattle.law_entries.proofs.PlanLemmas.{plans-last}
 use Rattle.law_entries.proofs.StayLemmas.{decoded-same, image-again, image-stays, memory-same, register-same, stays-computed, stays-memory, stays-register, stays-request}

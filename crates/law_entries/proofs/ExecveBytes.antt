@@ -1,9 +1,9 @@
 -- What is reached from the root of a tree, with the bytes of files: of the shape and of the bytes, and from tree to tree.
 use Rattle.std.proofs.Common.{◌≡◌, Option, Some, None, refl, ap, ◌∙◌}
 use Rattle.std.specs.Option.{option_map}
-use Rattle.law_local.specs.kr_tree.Tree.{Body, Directory, Inode, Node, ProcessDirectory, RegularFile, SymbolicLink, Tree, body_without_bytes, bytes_of, inode}
-use Rattle.law_local.specs.kr_model.Judged.{IsReachedStill, without_bytes}
-use Rattle.law_local.proofs.kr_loose.kr_turns.pr_base.TextLemmas.{some_is}
+use Rattle.kr_loose.specs.kr_tree.Tree.{Body, Directory, Inode, Node, ProcessDirectory, RegularFile, SymbolicLink, Tree, body_without_bytes, bytes_of, inode}
+use Rattle.kr_loose.specs.kr_model.Judged.{IsReachedStill, without_bytes}
+use Rattle.kr_loose.proofs.kr_turns.pr_base.TextLemmas.{some_is}
 use Rattle.law_entries.specs.Programs.{BytesAreReached, ReachesGoOn}
 
 -- ---- a node by what is no bytes, and by bytes

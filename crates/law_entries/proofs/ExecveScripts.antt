@@ -20,12 +20,12 @@ use Rattle.pt_tracer.specs.pt_script.Expanding.{command_of, ends_unmet, expanded
 use Rattle.pt_tracer.specs.pt_script.Programs.{base_from, canon_from, head_size, program_from, program_in, program_unmet, programs, unmet_at_canon, unmet_from_base}
 use Rattle.pt_tracer.specs.pt_script.declared.expansion.Expanded.{Expanded}
 use Rattle.pt_tracer.specs.pt_script.declared.program.Program.{Program}
-use Rattle.law_local.specs.kr_model.Judged.{IsReachedStill}
-use Rattle.law_local.specs.kr_model.State.{Image, State}
-use Rattle.law_local.specs.law_steady.Steady.{HaveOneShape}
-use Rattle.law_local.specs.law_steady.TextSteady.{texts_over}
-use Rattle.law_local.proofs.kr_loose.kr_turns.law_steady.SteadyLemmas.{steady_peeks_last, steady_walks_last}
-use Rattle.law_local.proofs.kr_loose.kr_turns.law_steady.TextLemmas.{steady_keys_last}
+use Rattle.kr_loose.specs.kr_model.Judged.{IsReachedStill}
+use Rattle.kr_loose.specs.kr_model.State.{Image, State}
+use Rattle.kr_loose.specs.law_steady.Steady.{HaveOneShape}
+use Rattle.kr_loose.specs.law_steady.TextSteady.{texts_over}
+use Rattle.kr_loose.proofs.kr_turns.law_steady.SteadyLemmas.{steady_peeks_last, steady_walks_last}
+use Rattle.kr_loose.proofs.kr_turns.law_steady.TextLemmas.{steady_keys_last}
 use Rattle.law_entries.proofs.WalkLemmas.{ComesAgain}
 
 -- ---- two kernels

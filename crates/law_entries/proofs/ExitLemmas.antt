@@ -21,8 +21,8 @@ use Rattle.pt_tracer.specs.Registers.{given_back}
 use Rattle.pt_tracer.specs.Watched.{Tracing, after_pending, answer_at, begin_as, begin_program, exited, give_back, has_begun, if_answered, is_execve, remembered_in, returned, shown_to, with_identities, with_tags, without_pending}
 use Rattle.pt_tracer.specs.declared.pending.Pending.{Pending}
 use Rattle.pt_tracer.specs.declared.registers.Arguments.{Arguments}
-use Rattle.law_local.specs.kr_model.State.{Image, Process, process}
-use Rattle.law_local.specs.kr_stops.Stopped.{Stopped, image_at, no_image}
+use Rattle.kr_loose.specs.kr_model.State.{Image, Process, process}
+use Rattle.kr_loose.specs.kr_stops.Stopped.{Stopped, image_at, no_image}
 use Rattle.law_entries.specs.Lasting.{ExitsGoByOwn, GoesBySame, SameTags}
 use Rattle.law_entries.proofs.StayLemmas.{image-computed, image_of}
 

@@ -1,4 +1,4 @@
-pub use Rattle.law_local.proofs as law_local
+pub use Rattle.kr_loose.proofs as kr_loose
 pub mod StayLemmas
 pub mod BeginLemmas
 pub mod WalkLemmas

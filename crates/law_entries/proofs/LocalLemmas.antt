@@ -13,7 +13,7 @@ use Rattle.pt_tracer.specs.pt_faker.Stopping.{after_request, decoded_at, registe
 use Rattle.pt_tracer.specs.pt_ident.IdentityTable.{IdentityTable, after_birth, after_end}
 use Rattle.pt_tracer.specs.Watched.{Tracing, after_decoding, after_pending, answer_at, begin_as, begin_program, born, by_identities, entered, exited, give_back, gone, has_begun, remembered_in, returned, shown_to, with_tags, without_pending}
 use Rattle.pt_tracer.specs.declared.pending.Pending.{Pending}
-use Rattle.law_local.specs.kr_stops.Stopped.{Stopped}
+use Rattle.kr_loose.specs.kr_stops.Stopped.{Stopped}
 use Rattle.law_entries.specs.Lasting.{ExecvePlansLast, GoesBySame, SameTags}
 use Rattle.law_entries.specs.Traced.{TellsNoIdentity, TracedPart, TracersAreLocal, traced_part}
 use Rattle.law_entries.proofs.EditLemmas.{entry-left, exit-left, exit-living}

@@ -32,10 +32,10 @@ use Rattle.pt_tracer.specs.declared.pending.Pending.{Pending}
 use Rattle.pt_tracer.specs.declared.plan.Led.{Led}
 use Rattle.pt_tracer.specs.declared.plan.Plan.{Plan}
 use Rattle.pt_tracer.specs.declared.registers.Arguments.{Arguments}
-use Rattle.law_local.specs.kr_stops.Stopped.{Stopped, image_at}
-use Rattle.law_local.specs.kr_loose.Marks.{AreUnmarked}
-use Rattle.law_local.proofs.kr_loose.MarkTurnLemmas.{edits-mark-nothing}
-use Rattle.law_local.proofs.kr_loose.UnmarkedLemmas.{action-unmarked}
+use Rattle.kr_loose.specs.kr_stops.Stopped.{Stopped, image_at}
+use Rattle.kr_loose.specs.Marks.{AreUnmarked}
+use Rattle.kr_loose.proofs.MarkTurnLemmas.{edits-mark-nothing}
+use Rattle.kr_loose.proofs.UnmarkedLemmas.{action-unmarked}
 use Rattle.law_entries.specs.Marking.{TracersMarkNothing}
 
 -- ---- what is done to a process

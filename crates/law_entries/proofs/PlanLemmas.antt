@@ -17,8 +17,8 @@ use Rattle.pt_tracer.specs.pt_args.declared.edit.Edit.{Edit}
 use Rattle.pt_tracer.specs.pt_results.Answers.{directory_answer, link_answer, link_unmet}
 use Rattle.pt_tracer.specs.Planning.{has_shelf, led_along, led_by, led_of, nowhere, plan_for, plan_for_unmet, rewritten, stack_at, texts_at, unmet_unless}
 use Rattle.pt_tracer.specs.declared.plan.Plan.{Plan}
-use Rattle.law_local.specs.kr_model.State.{Image}
-use Rattle.law_local.specs.kr_stops.Stopped.{Stopped}
+use Rattle.kr_loose.specs.kr_model.State.{Image}
+use Rattle.kr_loose.specs.kr_stops.Stopped.{Stopped}
 use Rattle.law_entries.specs.Lasting.{PlansLast, SameTags, StaysAt}
 use Rattle.law_entries.proofs.BeginLemmas.{working-same}
 use Rattle.law_entries.proofs.StayLemmas.{image-same}

@@ -10,16 +10,16 @@ use Rattle.pt_tracer.specs.rv_mem.Memory.{Memory}
 use Rattle.pt_tracer.specs.rv_mem.declared.regs.Regs.{Regs}
 use Rattle.pt_tracer.specs.pt_results.kr_calls.Decoding.{Decoded, decoding}
 use Rattle.pt_tracer.specs.pt_faker.Stopping.{after_request, decoded_at, memory_at, register_at, with_memory, with_register}
-use Rattle.law_local.specs.kr_model.kr_files.Descriptors.{Named}
-use Rattle.law_local.specs.kr_model.kr_files.Files.{file_at}
-use Rattle.law_local.specs.kr_model.kr_files.declared.opened.Opened.{Opened}
-use Rattle.law_local.specs.kr_model.Applied.{with_image}
-use Rattle.law_local.specs.kr_model.FileRows.{is_dir}
-use Rattle.law_local.specs.kr_model.State.{Image, Process, State, at_pid, is_pid, named, opened, process}
-use Rattle.law_local.specs.kr_tree.Tree.{Tree, body_is, is_directory}
-use Rattle.law_local.specs.kr_tree.declared.place.Host.TheVariants.{Node}
-use Rattle.law_local.specs.kr_tree.declared.place.Place.{Place}
-use Rattle.law_local.specs.kr_stops.Stopped.{Stopped, computed, edited, image_at, image_in, no_image}
+use Rattle.kr_loose.specs.kr_model.kr_files.Descriptors.{Named}
+use Rattle.kr_loose.specs.kr_model.kr_files.Files.{file_at}
+use Rattle.kr_loose.specs.kr_model.kr_files.declared.opened.Opened.{Opened}
+use Rattle.kr_loose.specs.kr_model.Applied.{with_image}
+use Rattle.kr_loose.specs.kr_model.FileRows.{is_dir}
+use Rattle.kr_loose.specs.kr_model.State.{Image, Process, State, at_pid, is_pid, named, opened, process}
+use Rattle.kr_loose.specs.kr_tree.Tree.{Tree, body_is, is_directory}
+use Rattle.kr_loose.specs.kr_tree.declared.place.Host.TheVariants.{Node}
+use Rattle.kr_loose.specs.kr_tree.declared.place.Place.{Place}
+use Rattle.kr_loose.specs.kr_stops.Stopped.{Stopped, computed, edited, image_at, image_in, no_image}
 use Rattle.law_entries.specs.Lasting.{BeginsOnNodes, StaysAt, StaysFor, open_of, own_of}
 
 -- ---- what a process computes on is given

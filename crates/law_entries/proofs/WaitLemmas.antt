@@ -28,7 +28,7 @@ use Rattle.pt_tracer.specs.pt_results.kr_calls.Decoding.{accepts, decoding_of, u
 use Rattle.pt_tracer.specs.pt_results.kr_calls.PathTable.{PathUse, path_at}
 use Rattle.pt_tracer.specs.pt_results.kr_calls.declared.request.Request.{Request}
 use Rattle.pt_tracer.specs.pt_results.kr_calls.declared.request.Request.TheVariants as call
-use Rattle.law_local.proofs.kr_loose.kr_turns.kr_calls.DecodingLemmas.{decoded_are_numbered}
+use Rattle.kr_loose.proofs.kr_turns.kr_calls.DecodingLemmas.{decoded_are_numbered}
 use Rattle.pt_tracer.specs.pt_args.Bases.{working_text}
 use Rattle.pt_tracer.specs.pt_args.Edits.{longest_path}
 use Rattle.pt_tracer.specs.pt_args.Shelving.{shelf_size, with_zero}
@@ -53,10 +53,10 @@ use Rattle.pt_tracer.specs.Watched.{Tracing, after_decoding, applied, by_identit
 use Rattle.pt_tracer.specs.declared.plan.Led.{Led}
 use Rattle.pt_tracer.specs.declared.plan.Plan.{Plan}
 use Rattle.pt_tracer.proofs.kr_stops.EditLemmas.{image-edited}
-use Rattle.law_local.specs.kr_core.kr_steps.Waits.{IsDecoded}
-use Rattle.law_local.specs.kr_model.Laws.{may_wait}
-use Rattle.law_local.specs.kr_model.State.{Image, Process, process}
-use Rattle.law_local.specs.kr_stops.Stopped.{IsThere, Stopped, image_at, image_in, no_image}
+use Rattle.kr_loose.specs.kr_core.kr_steps.Waits.{IsDecoded}
+use Rattle.kr_loose.specs.kr_model.Laws.{may_wait}
+use Rattle.kr_loose.specs.kr_model.State.{Image, Process, process}
+use Rattle.kr_loose.specs.kr_stops.Stopped.{IsThere, Stopped, image_at, image_in, no_image}
 use Rattle.law_entries.proofs.EditLemmas.{entry-left}
 use Rattle.law_entries.proofs.ExitLemmas.{image-register}
 use Rattle.law_entries.proofs.NumberLemmas.{KeepsNumber, either-keeps, is_apart, is_other, swaps-keep}

@@ -22,8 +22,8 @@ use Rattle.pt_tracer.specs.pt_results.Numbers.{count_of}
 use Rattle.pt_tracer.specs.Planning.{texts_at}
 use Rattle.pt_tracer.proofs.law_steady.SteadyLemmas.{steady_peeks_last, steady_walks_last}
 use Rattle.pt_tracer.proofs.law_steady.TextLemmas.{steady_keys_last}
-use Rattle.law_local.specs.kr_model.State.{Image}
-use Rattle.law_local.specs.kr_stops.Stopped.{Stopped}
+use Rattle.kr_loose.specs.kr_model.State.{Image}
+use Rattle.kr_loose.specs.kr_stops.Stopped.{Stopped}
 use Rattle.law_entries.specs.Lasting.{SameTags, StaysAt}
 use Rattle.law_entries.proofs.BeginLemmas.{base-same}
 

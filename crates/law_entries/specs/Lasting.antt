@@ -6,18 +6,18 @@ use Rattle.std.specs.Option.{option_map}
 use Rattle.pt_tracer.specs.pr_base.MountText.{MountText}
 use Rattle.pt_tracer.specs.pt_bind.Tags.{TagTable, tag_of}
 use Rattle.pt_tracer.specs.pt_bind.declared.slot.Slot.{Slot}
-use Rattle.law_local.specs.kr_tree.Lawful.{IsSound}
-use Rattle.law_local.specs.kr_tree.Tree.{body_is, is_directory}
-use Rattle.law_local.specs.kr_tree.declared.place.Host.TheVariants.{Node}
-use Rattle.law_local.specs.kr_tree.declared.place.Place.{Place}
-use Rattle.law_local.specs.kr_model.kr_files.declared.opened.Opened.{Opened}
-use Rattle.law_local.specs.kr_model.FileRows.{is_dir}
-use Rattle.law_local.specs.kr_model.Judged.{IsReachedStill}
-use Rattle.law_local.specs.kr_model.State.{Image, Process, State, opened, process}
-use Rattle.law_local.specs.law_steady.Steady.{HaveOneShape}
-use Rattle.law_local.specs.kr_core.Moving.{calls_execve}
-use Rattle.law_local.specs.kr_stops.Stopped.{Stopped, image_at, image_in}
-use Rattle.law_local.specs.kr_turns.Turn.{calling}
+use Rattle.kr_loose.specs.kr_tree.Lawful.{IsSound}
+use Rattle.kr_loose.specs.kr_tree.Tree.{body_is, is_directory}
+use Rattle.kr_loose.specs.kr_tree.declared.place.Host.TheVariants.{Node}
+use Rattle.kr_loose.specs.kr_tree.declared.place.Place.{Place}
+use Rattle.kr_loose.specs.kr_model.kr_files.declared.opened.Opened.{Opened}
+use Rattle.kr_loose.specs.kr_model.FileRows.{is_dir}
+use Rattle.kr_loose.specs.kr_model.Judged.{IsReachedStill}
+use Rattle.kr_loose.specs.kr_model.State.{Image, Process, State, opened, process}
+use Rattle.kr_loose.specs.law_steady.Steady.{HaveOneShape}
+use Rattle.kr_loose.specs.kr_core.Moving.{calls_execve}
+use Rattle.kr_loose.specs.kr_stops.Stopped.{Stopped, image_at, image_in}
+use Rattle.kr_loose.specs.kr_turns.Turn.{calling}
 use Rattle.pt_tracer.specs.pt_results.kr_calls.declared.request.Request.{Request}
 use Rattle.pt_tracer.specs.Planning.{planned, planned_unmet}
 use Rattle.pt_tracer.specs.Watched.{Tracing, asks, entered, exited, is_execve}

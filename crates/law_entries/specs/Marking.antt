@@ -1,5 +1,5 @@
 -- A tracer marks no byte.
-use Rattle.law_local.specs.kr_loose.Marks.{MarksNothing}
+use Rattle.kr_loose.specs.Marks.{MarksNothing}
 use Rattle.pt_tracer.specs.Watched.{tracer}
 
 -- whatever identity it tells

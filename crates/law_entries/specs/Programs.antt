@@ -1,7 +1,7 @@
 -- What is reached from the root of a tree, with the bytes of files, as far as execve(2) reads it at its first stop.
-use Rattle.law_local.specs.kr_tree.Tree.{Tree}
-use Rattle.law_local.specs.kr_model.Judged.{HasShape, IsReachedStill}
-use Rattle.law_local.specs.law_steady.Bytes.{HasBytes}
+use Rattle.kr_loose.specs.kr_tree.Tree.{Tree}
+use Rattle.kr_loose.specs.kr_model.Judged.{HasShape, IsReachedStill}
+use Rattle.kr_loose.specs.law_steady.Bytes.{HasBytes}
 
 -- a tree of the same shape whose files have the same bytes has the same nodes wherever a text leads
 abbrev pub BytesAreReached : Type 0

@@ -8,7 +8,7 @@ use Rattle.pt_tracer.specs.pt_bind.Tags.{tag_of}
 use Rattle.pt_tracer.specs.pt_bind.declared.slot.Slot.{Slot}
 use Rattle.pt_tracer.specs.Watched.{Tracing, asks, tracer}
 use Rattle.pt_tracer.specs.declared.pending.Pending.{Pending}
-use Rattle.law_local.specs.Local.{IsLocal, Locality}
+use Rattle.kr_loose.specs.Local.{IsLocal, Locality}
 use Rattle.law_entries.specs.Lasting.{StaysFor}
 
 -- the tags slot by slot

@@ -10,7 +10,7 @@
 //! the process, and keeps of it, what it did (`entries_last`).
 //!
 //! A second stop goes by what is kept of its process, by its tags and by its own registers (`exits_go_by_own`). So a tracer without an identity is local, as
-//! law_local has it (`tracers_are_local`): for a process it goes by its bindings, by the host user and by that process's tags.
+//! kr_loose has it (`tracers_are_local`): for a process it goes by its bindings, by the host user and by that process's tags.
 //!
 //! At neither stop a byte is marked, whatever identity is told (`tracers_mark_nothing`).
 #![tactic(auto)]

@@ -5,38 +5,38 @@ use Rattle.std.specs.Prelude.{map as map_list, ◌==◌, Result, Ok, Err, IsSome
 use Rattle.std.specs.List.{AllByRecursion, filter, find}
 use Rattle.std.specs.Option.{option_map_or}
 use Rattle.std.proofs.lemmas.Option.{same_Some}
-use Rattle.law_local.specs.kr_core.pr_base.Errno.{errno_number}
-use Rattle.law_local.specs.kr_core.pr_base.Maps.{changed}
-use Rattle.law_local.specs.kr_core.pr_base.declared.errno.Errno.{Errno}
-use Rattle.law_local.specs.rv_mem.Actions.{CarriedOut, carried_out}
-use Rattle.law_local.specs.rv_mem.Memory.{Memory}
-use Rattle.law_local.specs.rv_mem.declared.regs.Regs.{Regs}
-use Rattle.law_local.specs.kr_tree.declared.place.Host.{Host}
-use Rattle.law_local.specs.kr_view.View.{Row}
-use Rattle.law_local.specs.kr_core.kr_calls.Decoding.{Decoded, decoding}
-use Rattle.law_local.specs.kr_core.kr_calls.declared.request.Request.{Request}
-use Rattle.law_local.specs.kr_core.kr_calls.declared.request.Request.TheVariants as call
-use Rattle.law_local.specs.kr_core.kr_files.Descriptors.{Meanings, Named}
-use Rattle.law_local.specs.kr_core.kr_files.Files.{at_offset, with_append, with_opened}
-use Rattle.law_local.specs.kr_model.Applied.{Mounts, all_applied, applied, child_of, close, close_below, close_named, close_on_exec_below, copy_over, end, exe_after_removal, exe_after_rename, exe_remembers, executed, forked_from, gone, images, is_closed_on_exec, mount_of, moved_to, open_in, orphaned, with_brk, with_cwd, with_exe, with_exe_name, with_files, with_image, with_living, with_parent, with_program, with_umask}
-use Rattle.law_local.specs.kr_model.Change.{AddNode, Birth, Change, ChangeDirectory, ChangePages, CloseDescriptor, CloseOnExec, CopyDescriptor, End, Fork, LinkNode, MakePipe, MoveName, OpenFile, PutIntoPipe, Reap, RemoveName, ReplaceExecutable, ReplaceImage, Seek, SetAppend, SetBreak, SetCloexec, SetMode, SetOwner, SetSize, SetUmask, TakeFromPipe, TakeInput, WriteErr, WriteFile, WriteOut}
-use Rattle.law_local.specs.kr_model.Known.{known}
-use Rattle.law_local.specs.kr_model.Lawful.{ArePids, RiseFrom}
-use Rattle.law_local.specs.kr_model.Reply.{Reply}
-use Rattle.law_local.specs.kr_model.State.{Image, Process, State, at_pid, image_layout, is_pid, named, process, with_descs, with_process}
-use Rattle.law_local.specs.kr_model.Walks.{seen, targets_of}
-use Rattle.law_local.specs.kr_model.declared.outcome.Outcome.{Outcome}
-use Rattle.law_local.specs.kr_model.declared.outcome.Outcome.TheVariants.{Answer, Ended, NoMemory, Wait}
-use Rattle.law_local.specs.kr_core.law_allowed.Told.{mounts_walked}
-use Rattle.law_local.specs.kr_core.kr_seen.Carrying.{memory_of, with_memory, with_memory_of}
-use Rattle.law_local.specs.kr_core.kr_execve.Execution.{Program, after_execution, changes_of, execution, mount_of as mount_of_program}
-use Rattle.law_local.specs.kr_core.kr_steps.Answering.{going, with_answer}
-use Rattle.law_local.specs.kr_core.kr_steps.Settling.{settled}
-use Rattle.law_local.specs.kr_stops.Stopped.{computed, nothing_handed}
-use Rattle.law_local.specs.kr_turns.PlainCall.{after_decoding, child_of as child_told, end_of, executed as program_executed, operated, plain_call, plain_call_of, refusal_told, replaced, requested, row_on}
-use Rattle.law_local.specs.kr_turns.Turn.{killed}
-use Rattle.law_local.specs.kr_turns.declared.plain.CallEnd.TheVariants as ended
-use Rattle.law_local.proofs.kr_loose.LivingLemmas.{all-found, all-passed}
+use Rattle.kr_loose.specs.kr_core.pr_base.Errno.{errno_number}
+use Rattle.kr_loose.specs.kr_core.pr_base.Maps.{changed}
+use Rattle.kr_loose.specs.kr_core.pr_base.declared.errno.Errno.{Errno}
+use Rattle.kr_loose.specs.rv_mem.Actions.{CarriedOut, carried_out}
+use Rattle.kr_loose.specs.rv_mem.Memory.{Memory}
+use Rattle.kr_loose.specs.rv_mem.declared.regs.Regs.{Regs}
+use Rattle.kr_loose.specs.kr_tree.declared.place.Host.{Host}
+use Rattle.kr_loose.specs.kr_view.View.{Row}
+use Rattle.kr_loose.specs.kr_core.kr_calls.Decoding.{Decoded, decoding}
+use Rattle.kr_loose.specs.kr_core.kr_calls.declared.request.Request.{Request}
+use Rattle.kr_loose.specs.kr_core.kr_calls.declared.request.Request.TheVariants as call
+use Rattle.kr_loose.specs.kr_core.kr_files.Descriptors.{Meanings, Named}
+use Rattle.kr_loose.specs.kr_core.kr_files.Files.{at_offset, with_append, with_opened}
+use Rattle.kr_loose.specs.kr_model.Applied.{Mounts, all_applied, applied, child_of, close, close_below, close_named, close_on_exec_below, copy_over, end, exe_after_removal, exe_after_rename, exe_remembers, executed, forked_from, gone, images, is_closed_on_exec, mount_of, moved_to, open_in, orphaned, with_brk, with_cwd, with_exe, with_exe_name, with_files, with_image, with_living, with_parent, with_program, with_umask}
+use Rattle.kr_loose.specs.kr_model.Change.{AddNode, Birth, Change, ChangeDirectory, ChangePages, CloseDescriptor, CloseOnExec, CopyDescriptor, End, Fork, LinkNode, MakePipe, MoveName, OpenFile, PutIntoPipe, Reap, RemoveName, ReplaceExecutable, ReplaceImage, Seek, SetAppend, SetBreak, SetCloexec, SetMode, SetOwner, SetSize, SetUmask, TakeFromPipe, TakeInput, WriteErr, WriteFile, WriteOut}
+use Rattle.kr_loose.specs.kr_model.Known.{known}
+use Rattle.kr_loose.specs.kr_model.Lawful.{ArePids, RiseFrom}
+use Rattle.kr_loose.specs.kr_model.Reply.{Reply}
+use Rattle.kr_loose.specs.kr_model.State.{Image, Process, State, at_pid, image_layout, is_pid, named, process, with_descs, with_process}
+use Rattle.kr_loose.specs.kr_model.Walks.{seen, targets_of}
+use Rattle.kr_loose.specs.kr_model.declared.outcome.Outcome.{Outcome}
+use Rattle.kr_loose.specs.kr_model.declared.outcome.Outcome.TheVariants.{Answer, Ended, NoMemory, Wait}
+use Rattle.kr_loose.specs.kr_core.law_allowed.Told.{mounts_walked}
+use Rattle.kr_loose.specs.kr_core.kr_seen.Carrying.{memory_of, with_memory, with_memory_of}
+use Rattle.kr_loose.specs.kr_core.kr_execve.Execution.{Program, after_execution, changes_of, execution, mount_of as mount_of_program}
+use Rattle.kr_loose.specs.kr_core.kr_steps.Answering.{going, with_answer}
+use Rattle.kr_loose.specs.kr_core.kr_steps.Settling.{settled}
+use Rattle.kr_loose.specs.kr_stops.Stopped.{computed, nothing_handed}
+use Rattle.kr_loose.specs.kr_turns.PlainCall.{after_decoding, child_of as child_told, end_of, executed as program_executed, operated, plain_call, plain_call_of, refusal_told, replaced, requested, row_on}
+use Rattle.kr_loose.specs.kr_turns.Turn.{killed}
+use Rattle.kr_loose.specs.kr_turns.declared.plain.CallEnd.TheVariants as ended
+use Rattle.kr_loose.proofs.LivingLemmas.{all-found, all-passed}
 use Rattle.law_beside.proofs.kr_core.law_allowed.PieceLemmas.{all-append}
 use Rattle.law_beside.proofs.kr_core.law_lawful.AfterLemmas.{pids-with}
 use Rattle.law_beside.proofs.kr_core.law_lawful.ProcessChangeLemmas.{found-above, found-passes}

@@ -1,12 +1,12 @@
 -- A watcher with all that is asked of it, and the laws from below on which loose runs rest. The laws are handed over as one, and so are watchers: no
 -- clause ranges over predicates, but a lemma may.
 use Rattle.std.specs.Prelude.{ℕ, Bool, List}
-use Rattle.law_local.specs.kr_view.View.{Row}
-use Rattle.law_local.specs.kr_model.State.{Image, State}
-use Rattle.law_local.specs.kr_stops.Stopped.{Stopped}
-use Rattle.law_local.specs.kr_stops.Watching.{Watcher}
-use Rattle.law_local.specs.kr_turns.Turn.{Machine}
-use Rattle.law_local.specs.Local.{Locality}
+use Rattle.kr_loose.specs.kr_view.View.{Row}
+use Rattle.kr_loose.specs.kr_model.State.{Image, State}
+use Rattle.kr_loose.specs.kr_stops.Stopped.{Stopped}
+use Rattle.kr_loose.specs.kr_stops.Watching.{Watcher}
+use Rattle.kr_loose.specs.kr_turns.Turn.{Machine}
+use Rattle.kr_loose.specs.Local.{Locality}
 use Rattle.law_beside.specs.Calls.{PlainCallsComeBeside}
 use Rattle.law_beside.specs.Changes.{BesideIsAnEquality, EditsStayBeside, EndsComeBeside}
 use Rattle.law_beside.specs.Picks.{PicksAreBeside}

@@ -6,44 +6,44 @@ use Rattle.std.specs.List.{All}
 use Rattle.std.specs.Option.{option_map, option_map_or}
 use Rattle.std.proofs.lemmas.Bool.{cases_eq, or_left}
 use Rattle.std.proofs.lemmas.Option.{same_Some}
-use Rattle.law_local.specs.kr_core.pr_base.declared.errno.Errno.{Errno}
-use Rattle.law_local.specs.kr_turns.rv_cpu.Run.{Ran, ran}
-use Rattle.law_local.specs.kr_turns.rv_cpu.declared.event.Event.TheVariants.{Call}
-use Rattle.law_local.specs.kr_view.View.{Row}
-use Rattle.law_local.specs.kr_view.declared.target.Reach.{Reach}
-use Rattle.law_local.specs.kr_core.kr_calls.Arguments.{number}
-use Rattle.law_local.specs.kr_core.kr_calls.declared.request.Request.{Request}
-use Rattle.law_local.specs.kr_core.kr_calls.declared.request.Request.TheVariants as call
-use Rattle.law_local.specs.rv_mem.Actions.{carried_out as carried_out_on}
-use Rattle.law_local.specs.kr_core.kr_calls.Decoding.{decoding}
-use Rattle.law_local.specs.kr_model.Applied.{with_living}
-use Rattle.law_local.specs.kr_model.Lawful.{ArePids, RiseFrom}
-use Rattle.law_local.specs.kr_model.State.{Image, Process, State, at_pid, process}
-use Rattle.law_local.specs.kr_core.kr_calm.declared.rule.Rule.{Rule}
-use Rattle.law_local.specs.kr_core.kr_steps.Answering.{going, waiting}
-use Rattle.law_local.specs.kr_stops.Stopped.{IsThere, Stopped, computed, edited, image_at, image_in, nothing_handed}
-use Rattle.law_local.specs.kr_stops.declared.handed.Handed.{Handed}
-use Rattle.law_local.specs.kr_turns.Breaking.{decoded_rule, nothing_reached, plain_rule, plain_rule_of, requested_rule}
-use Rattle.law_local.specs.kr_turns.CallSteps.{behind_if, carried_by, carried_out, entered, exited}
-use Rattle.law_local.specs.kr_turns.PlainCall.{Came, plain_call, plain_reach}
-use Rattle.law_local.specs.kr_turns.Run.{Slot, after_put, cleared}
-use Rattle.law_local.specs.kr_turns.Shelving.{lacks_in}
-use Rattle.law_local.specs.kr_turns.Turn.{Machine, Tally, after_born, after_end, after_exit, called, calling, turn, watched_call, with_broken, with_status}
-use Rattle.law_local.specs.kr_turns.declared.plain.CallEnd.{CallEnd}
-use Rattle.law_local.specs.kr_turns.declared.plain.CallEnd.TheVariants as end
-use Rattle.law_local.specs.kr_turns.declared.steps.After.{After}
-use Rattle.law_local.specs.kr_turns.declared.steps.After.TheVariants.{Behind, Gone, Waiting}
-use Rattle.law_local.specs.kr_core.Between.{between_of}
-use Rattle.law_local.specs.kr_core.Moving.{Moved, calls_execve, plainly_moved}
-use Rattle.law_local.specs.kr_core.declared.paused.Begun.{Begun}
-use Rattle.law_local.specs.kr_core.declared.paused.Between.{Between}
-use Rattle.law_local.specs.kr_core.declared.paused.Between.TheVariants.{Done, Entered}
-use Rattle.law_local.specs.kr_loose.LooseRun.{Loose, noted}
-use Rattle.law_local.specs.kr_loose.Marks.{AreUnmarked}
-use Rattle.law_local.specs.kr_loose.Quiet.{LeavesFor, others_since_entry}
-use Rattle.law_local.specs.kr_loose.WaitingCalls.{LeavesAll}
-use Rattle.law_local.specs.Local.{EntersAlike, ExitsAlike}
-use Rattle.law_local.proofs.kr_loose.WaitingLemmas.{waits-leave-all}
+use Rattle.kr_loose.specs.kr_core.pr_base.declared.errno.Errno.{Errno}
+use Rattle.kr_loose.specs.kr_turns.rv_cpu.Run.{Ran, ran}
+use Rattle.kr_loose.specs.kr_turns.rv_cpu.declared.event.Event.TheVariants.{Call}
+use Rattle.kr_loose.specs.kr_view.View.{Row}
+use Rattle.kr_loose.specs.kr_view.declared.target.Reach.{Reach}
+use Rattle.kr_loose.specs.kr_core.kr_calls.Arguments.{number}
+use Rattle.kr_loose.specs.kr_core.kr_calls.declared.request.Request.{Request}
+use Rattle.kr_loose.specs.kr_core.kr_calls.declared.request.Request.TheVariants as call
+use Rattle.kr_loose.specs.rv_mem.Actions.{carried_out as carried_out_on}
+use Rattle.kr_loose.specs.kr_core.kr_calls.Decoding.{decoding}
+use Rattle.kr_loose.specs.kr_model.Applied.{with_living}
+use Rattle.kr_loose.specs.kr_model.Lawful.{ArePids, RiseFrom}
+use Rattle.kr_loose.specs.kr_model.State.{Image, Process, State, at_pid, process}
+use Rattle.kr_loose.specs.kr_core.kr_calm.declared.rule.Rule.{Rule}
+use Rattle.kr_loose.specs.kr_core.kr_steps.Answering.{going, waiting}
+use Rattle.kr_loose.specs.kr_stops.Stopped.{IsThere, Stopped, computed, edited, image_at, image_in, nothing_handed}
+use Rattle.kr_loose.specs.kr_stops.declared.handed.Handed.{Handed}
+use Rattle.kr_loose.specs.kr_turns.Breaking.{decoded_rule, nothing_reached, plain_rule, plain_rule_of, requested_rule}
+use Rattle.kr_loose.specs.kr_turns.CallSteps.{behind_if, carried_by, carried_out, entered, exited}
+use Rattle.kr_loose.specs.kr_turns.PlainCall.{Came, plain_call, plain_reach}
+use Rattle.kr_loose.specs.kr_turns.Run.{Slot, after_put, cleared}
+use Rattle.kr_loose.specs.kr_turns.Shelving.{lacks_in}
+use Rattle.kr_loose.specs.kr_turns.Turn.{Machine, Tally, after_born, after_end, after_exit, called, calling, turn, watched_call, with_broken, with_status}
+use Rattle.kr_loose.specs.kr_turns.declared.plain.CallEnd.{CallEnd}
+use Rattle.kr_loose.specs.kr_turns.declared.plain.CallEnd.TheVariants as end
+use Rattle.kr_loose.specs.kr_turns.declared.steps.After.{After}
+use Rattle.kr_loose.specs.kr_turns.declared.steps.After.TheVariants.{Behind, Gone, Waiting}
+use Rattle.kr_loose.specs.kr_core.Between.{between_of}
+use Rattle.kr_loose.specs.kr_core.Moving.{Moved, calls_execve, plainly_moved}
+use Rattle.kr_loose.specs.kr_core.declared.paused.Begun.{Begun}
+use Rattle.kr_loose.specs.kr_core.declared.paused.Between.{Between}
+use Rattle.kr_loose.specs.kr_core.declared.paused.Between.TheVariants.{Done, Entered}
+use Rattle.kr_loose.specs.LooseRun.{Loose, noted}
+use Rattle.kr_loose.specs.Marks.{AreUnmarked}
+use Rattle.kr_loose.specs.Quiet.{LeavesFor, others_since_entry}
+use Rattle.kr_loose.specs.WaitingCalls.{LeavesAll}
+use Rattle.kr_loose.specs.Local.{EntersAlike, ExitsAlike}
+use Rattle.kr_loose.proofs.WaitingLemmas.{waits-leave-all}
 use Rattle.law_beside.specs.Beside.{laid}
 use Rattle.law_beside.specs.Calls.{ComeBeside, is_child}
 use Rattle.law_beside.proofs.kr_core.PausedLemmas.{paused-other, paused-own, run-other, run-own}

@@ -1,4 +1,4 @@
-pub use Rattle.law_local.proofs as law_local
+pub use Rattle.kr_loose.proofs as kr_loose
 pub use Rattle.law_beside.proofs as law_beside
 pub mod BelowLemmas
 pub mod AloneLemmas

@@ -5,27 +5,27 @@ use Rattle.std.specs.List.{All, find}
 use Rattle.std.specs.Option.{option_map_or}
 use Rattle.std.proofs.lemmas.Bool.{cases_eq}
 use Rattle.std.proofs.lemmas.List.Elements.{All-head, All-tail}
-use Rattle.law_local.specs.kr_model.Judged.{HasShape}
-use Rattle.law_local.specs.kr_model.Lawful.{ArePids}
-use Rattle.law_local.specs.kr_model.State.{Image, Layout, Process, State, image_layout, is_pid, process}
-use Rattle.law_local.specs.kr_core.kr_calls.Arguments.{number}
-use Rattle.law_local.specs.kr_core.law_allowed.Others.{LivesOn, Own}
-use Rattle.law_local.specs.kr_tree.Tree.{Tree}
-use Rattle.law_local.specs.law_steady.Bytes.{HasBytes}
-use Rattle.law_local.specs.kr_stops.Stopped.{image_in, no_image}
-use Rattle.law_local.specs.kr_stops.declared.handed.Handed.{Handed}
-use Rattle.law_local.specs.kr_turns.Run.{Slot, after_put, cleared}
-use Rattle.law_local.specs.kr_turns.Steps.{picked_process}
-use Rattle.law_local.specs.kr_turns.Turn.{Machine, calling, turn}
-use Rattle.law_local.specs.kr_core.Between.{between_of}
-use Rattle.law_local.specs.kr_core.Moving.{Moved, calls_execve}
-use Rattle.law_local.specs.kr_core.declared.paused.Begun.{Begun}
-use Rattle.law_local.specs.kr_core.declared.paused.Between.{Between}
-use Rattle.law_local.specs.kr_core.declared.paused.Between.TheVariants.{AtCall, Done, Entered}
-use Rattle.law_local.specs.kr_loose.LooseRun.{Loose, Step, after_bytes, noted}
-use Rattle.law_local.specs.kr_loose.Quiet.{LeavesFor, others_since_entry}
-use Rattle.law_local.specs.Local.{EntersAlike, ExitsAlike}
-use Rattle.law_local.proofs.kr_loose.BehindLemmas.{others-other}
+use Rattle.kr_loose.specs.kr_model.Judged.{HasShape}
+use Rattle.kr_loose.specs.kr_model.Lawful.{ArePids}
+use Rattle.kr_loose.specs.kr_model.State.{Image, Layout, Process, State, image_layout, is_pid, process}
+use Rattle.kr_loose.specs.kr_core.kr_calls.Arguments.{number}
+use Rattle.kr_loose.specs.kr_core.law_allowed.Others.{LivesOn, Own}
+use Rattle.kr_loose.specs.kr_tree.Tree.{Tree}
+use Rattle.kr_loose.specs.law_steady.Bytes.{HasBytes}
+use Rattle.kr_loose.specs.kr_stops.Stopped.{image_in, no_image}
+use Rattle.kr_loose.specs.kr_stops.declared.handed.Handed.{Handed}
+use Rattle.kr_loose.specs.kr_turns.Run.{Slot, after_put, cleared}
+use Rattle.kr_loose.specs.kr_turns.Steps.{picked_process}
+use Rattle.kr_loose.specs.kr_turns.Turn.{Machine, calling, turn}
+use Rattle.kr_loose.specs.kr_core.Between.{between_of}
+use Rattle.kr_loose.specs.kr_core.Moving.{Moved, calls_execve}
+use Rattle.kr_loose.specs.kr_core.declared.paused.Begun.{Begun}
+use Rattle.kr_loose.specs.kr_core.declared.paused.Between.{Between}
+use Rattle.kr_loose.specs.kr_core.declared.paused.Between.TheVariants.{AtCall, Done, Entered}
+use Rattle.kr_loose.specs.LooseRun.{Loose, Step, after_bytes, noted}
+use Rattle.kr_loose.specs.Quiet.{LeavesFor, others_since_entry}
+use Rattle.kr_loose.specs.Local.{EntersAlike, ExitsAlike}
+use Rattle.kr_loose.proofs.BehindLemmas.{others-other}
 use Rattle.law_beside.proofs.kr_core.law_allowed.OthersLemmas.{lives_on}
 use Rattle.law_beside.proofs.kr_core.law_lawful.SumLemmas.{other-test}
 use Rattle.law_beside.specs.Beside.{imaged_by, laid}

@@ -3,18 +3,18 @@ use Rattle.std.proofs.Common.{◌≡◌, ◌≢◌, ℕ, zero, suc, ◌+◌, ◌
 use Rattle.std.specs.Option.{option_map_or}
 use Rattle.std.proofs.lemmas.List.{get_or_append_left}
 use Rattle.std.proofs.lemmas.List.Elements.{All-head, All-tail}
-use Rattle.law_local.specs.kr_view.View.{Row}
-use Rattle.law_local.specs.kr_model.State.{Image, Layout, Process, State}
-use Rattle.law_local.specs.kr_stops.Stopped.{Stopped}
-use Rattle.law_local.specs.kr_stops.Watching.{Watcher}
-use Rattle.law_local.specs.kr_turns.Run.{Deadlock, Ending, Over, Put, Ran, Slot, Spent, after_put, ended, ending_of, if_any, put_by, run, run_from, turned, with_put}
-use Rattle.law_local.specs.kr_turns.Steps.{picked_process, ready_processes}
-use Rattle.law_local.specs.kr_turns.Turn.{Machine, Tally, turn}
-use Rattle.law_local.specs.kr_core.Between.{between_of}
-use Rattle.law_local.specs.kr_core.Moving.{Entry, Exit, Instructions, Moved, Plain, StepKind, moved}
-use Rattle.law_local.specs.kr_loose.LooseRun.{Loose, LooseRan, Step, after_bytes, loose_ended, loose_from, loose_put, loose_run, loosened, noted, step_of, stepped}
-use Rattle.law_local.specs.kr_loose.Quiet.{AreUndisturbed, IsUndisturbed, MeetNone, met_by}
-use Rattle.law_local.specs.kr_loose.Slots.{slot_of_turn, slots_of_kind, slots_of_steps}
+use Rattle.kr_loose.specs.kr_view.View.{Row}
+use Rattle.kr_loose.specs.kr_model.State.{Image, Layout, Process, State}
+use Rattle.kr_loose.specs.kr_stops.Stopped.{Stopped}
+use Rattle.kr_loose.specs.kr_stops.Watching.{Watcher}
+use Rattle.kr_loose.specs.kr_turns.Run.{Deadlock, Ending, Over, Put, Ran, Slot, Spent, after_put, ended, ending_of, if_any, put_by, run, run_from, turned, with_put}
+use Rattle.kr_loose.specs.kr_turns.Steps.{picked_process, ready_processes}
+use Rattle.kr_loose.specs.kr_turns.Turn.{Machine, Tally, turn}
+use Rattle.kr_loose.specs.kr_core.Between.{between_of}
+use Rattle.kr_loose.specs.kr_core.Moving.{Entry, Exit, Instructions, Moved, Plain, StepKind, moved}
+use Rattle.kr_loose.specs.LooseRun.{Loose, LooseRan, Step, after_bytes, loose_ended, loose_from, loose_put, loose_run, loosened, noted, step_of, stepped}
+use Rattle.kr_loose.specs.Quiet.{AreUndisturbed, IsUndisturbed, MeetNone, met_by}
+use Rattle.kr_loose.specs.Slots.{slot_of_turn, slots_of_kind, slots_of_steps}
 use Rattle.law_beside.proofs.law_kept.MemoryApartLemmas.{one_runs}
 use Rattle.law_loose.specs.Images.{CanBegin, ComeToSame, IsCleared, LooseRunsAreTheirImages, StepLags, all_err, all_out}
 use Rattle.law_loose.specs.Lagging.{Lags}

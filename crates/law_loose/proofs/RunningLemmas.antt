@@ -3,32 +3,32 @@ use Rattle.std.proofs.Common.{◌≡◌, inl, inr, ℕ, zero, suc, ◌+◌, ◌-
 use Rattle.std.specs.Prelude.{◌==◌, IsSome}
 use Rattle.std.proofs.lemmas.Bool.{or_cases, or_left, or_right}
 use Rattle.std.proofs.lemmas.Option.{same_Some}
-use Rattle.law_local.specs.rv_mem.Actions.{carried_out}
-use Rattle.law_local.specs.rv_mem.Memory.{Memory}
-use Rattle.law_local.specs.rv_mem.declared.regs.Regs.{Regs}
-use Rattle.law_local.specs.kr_turns.rv_cpu.Run.{Ran, at_rest, counted, ran, ran_holding}
-use Rattle.law_local.specs.kr_turns.rv_cpu.Step.{step}
-use Rattle.law_local.specs.kr_turns.rv_cpu.declared.event.Event.{Event}
-use Rattle.law_local.specs.kr_turns.rv_cpu.declared.event.Event.TheVariants.{Next, Call, Killed}
-use Rattle.law_local.specs.kr_turns.rv_cpu.declared.reservation.Held.{Held}
-use Rattle.law_local.specs.kr_model.Lawful.{ArePids}
-use Rattle.law_local.specs.kr_model.State.{Image, Process, State, process}
-use Rattle.law_local.specs.kr_stops.Stopped.{Stopped, computed, image_in, nothing_handed}
-use Rattle.law_local.specs.kr_core.kr_calm.Calm.{kept}
-use Rattle.law_local.specs.kr_core.kr_calm.declared.rule.Rule.{Rule}
-use Rattle.law_local.specs.kr_turns.Run.{after_put}
-use Rattle.law_local.specs.kr_turns.Steps.{picked_process}
-use Rattle.law_local.specs.kr_turns.Turn.{Machine, Tally, after_event, by_pick, killed, turn, with_broken, with_status}
-use Rattle.law_local.specs.kr_core.Between.{between_of, paused_at}
-use Rattle.law_local.specs.kr_core.Moving.{Instructions, Moved, computing, idle_moved, tally_killed}
-use Rattle.law_local.specs.kr_core.declared.paused.Between.{Between}
-use Rattle.law_local.specs.kr_core.declared.paused.Between.TheVariants.{AtCall}
-use Rattle.law_local.specs.kr_loose.LooseRun.{Loose, noted}
-use Rattle.law_local.specs.kr_loose.Marks.{HasNoMarks}
-use Rattle.law_local.specs.kr_loose.Parting.{PartsAtCall}
-use Rattle.law_local.specs.kr_loose.Slots.{slots_of_kind}
-use Rattle.law_local.proofs.kr_loose.LivingLemmas.{process-unmarked}
-use Rattle.law_local.proofs.kr_loose.PartingLemmas.{runs-part-at-calls}
+use Rattle.kr_loose.specs.rv_mem.Actions.{carried_out}
+use Rattle.kr_loose.specs.rv_mem.Memory.{Memory}
+use Rattle.kr_loose.specs.rv_mem.declared.regs.Regs.{Regs}
+use Rattle.kr_loose.specs.kr_turns.rv_cpu.Run.{Ran, at_rest, counted, ran, ran_holding}
+use Rattle.kr_loose.specs.kr_turns.rv_cpu.Step.{step}
+use Rattle.kr_loose.specs.kr_turns.rv_cpu.declared.event.Event.{Event}
+use Rattle.kr_loose.specs.kr_turns.rv_cpu.declared.event.Event.TheVariants.{Next, Call, Killed}
+use Rattle.kr_loose.specs.kr_turns.rv_cpu.declared.reservation.Held.{Held}
+use Rattle.kr_loose.specs.kr_model.Lawful.{ArePids}
+use Rattle.kr_loose.specs.kr_model.State.{Image, Process, State, process}
+use Rattle.kr_loose.specs.kr_stops.Stopped.{Stopped, computed, image_in, nothing_handed}
+use Rattle.kr_loose.specs.kr_core.kr_calm.Calm.{kept}
+use Rattle.kr_loose.specs.kr_core.kr_calm.declared.rule.Rule.{Rule}
+use Rattle.kr_loose.specs.kr_turns.Run.{after_put}
+use Rattle.kr_loose.specs.kr_turns.Steps.{picked_process}
+use Rattle.kr_loose.specs.kr_turns.Turn.{Machine, Tally, after_event, by_pick, killed, turn, with_broken, with_status}
+use Rattle.kr_loose.specs.kr_core.Between.{between_of, paused_at}
+use Rattle.kr_loose.specs.kr_core.Moving.{Instructions, Moved, computing, idle_moved, tally_killed}
+use Rattle.kr_loose.specs.kr_core.declared.paused.Between.{Between}
+use Rattle.kr_loose.specs.kr_core.declared.paused.Between.TheVariants.{AtCall}
+use Rattle.kr_loose.specs.LooseRun.{Loose, noted}
+use Rattle.kr_loose.specs.Marks.{HasNoMarks}
+use Rattle.kr_loose.specs.Parting.{PartsAtCall}
+use Rattle.kr_loose.specs.Slots.{slots_of_kind}
+use Rattle.kr_loose.proofs.LivingLemmas.{process-unmarked}
+use Rattle.kr_loose.proofs.PartingLemmas.{runs-part-at-calls}
 use Rattle.law_beside.specs.Beside.{AreBeside, laid}
 use Rattle.law_beside.proofs.kr_core.PausedLemmas.{paused-other, paused-own}
 use Rattle.law_beside.proofs.kr_core.rv_cpu.RunLemmas.{ran-next, ran-stop, ran-zero}

@@ -1,17 +1,17 @@
 -- A quiet step of a loose run keeps it beside the machine that makes the turns of its slots, and puts the bytes that these put.
 use Rattle.std.proofs.Common.{◌≡◌, ℕ, ◌-◌, false, Option, Some, None, refl}
-use Rattle.law_local.specs.kr_turns.rv_cpu.Run.{Ran, ran}
-use Rattle.law_local.specs.kr_turns.rv_cpu.declared.event.Event.{Event}
-use Rattle.law_local.specs.kr_turns.rv_cpu.declared.event.Event.TheVariants.{Next, Call, Killed}
-use Rattle.law_local.specs.kr_model.State.{Image, Process}
-use Rattle.law_local.specs.kr_turns.Turn.{Machine}
-use Rattle.law_local.specs.kr_core.Between.{between_of}
-use Rattle.law_local.specs.kr_core.Moving.{Moved, after_instructions, computing, moved}
-use Rattle.law_local.specs.kr_core.declared.paused.Between.{Between}
-use Rattle.law_local.specs.kr_core.declared.paused.Between.TheVariants.{AtCall, Done, Entered}
-use Rattle.law_local.specs.kr_loose.LooseRun.{Loose, noted}
-use Rattle.law_local.specs.kr_loose.Quiet.{IsUndisturbed, met_by}
-use Rattle.law_local.specs.kr_loose.Slots.{slots_of_kind}
+use Rattle.kr_loose.specs.kr_turns.rv_cpu.Run.{Ran, ran}
+use Rattle.kr_loose.specs.kr_turns.rv_cpu.declared.event.Event.{Event}
+use Rattle.kr_loose.specs.kr_turns.rv_cpu.declared.event.Event.TheVariants.{Next, Call, Killed}
+use Rattle.kr_loose.specs.kr_model.State.{Image, Process}
+use Rattle.kr_loose.specs.kr_turns.Turn.{Machine}
+use Rattle.kr_loose.specs.kr_core.Between.{between_of}
+use Rattle.kr_loose.specs.kr_core.Moving.{Moved, after_instructions, computing, moved}
+use Rattle.kr_loose.specs.kr_core.declared.paused.Between.{Between}
+use Rattle.kr_loose.specs.kr_core.declared.paused.Between.TheVariants.{AtCall, Done, Entered}
+use Rattle.kr_loose.specs.LooseRun.{Loose, noted}
+use Rattle.kr_loose.specs.Quiet.{IsUndisturbed, met_by}
+use Rattle.kr_loose.specs.Slots.{slots_of_kind}
 use Rattle.law_loose.specs.Images.{StepsLag}
 use Rattle.law_loose.specs.Lagging.{GoesAlike}
 use Rattle.law_loose.specs.Staying.{behind_turns}

@@ -1,23 +1,23 @@
 -- Stops of a process's call by themselves, as a loose run makes them: no turn stands for them.
 use Rattle.std.proofs.Common.{◌≡◌, ℕ, true, false, [], ◌∷◌, Option, Some, refl, sym, ap, subst, ◌∙◌}
 use Rattle.std.specs.Prelude.{◌==◌, IsSome}
-use Rattle.law_local.specs.rv_mem.Memory.{Memory}
-use Rattle.law_local.specs.rv_mem.declared.regs.Regs.{Regs}
-use Rattle.law_local.specs.kr_core.kr_calls.Arguments.{number}
-use Rattle.law_local.specs.kr_model.Applied.{with_image}
-use Rattle.law_local.specs.kr_model.Lawful.{ArePids}
-use Rattle.law_local.specs.kr_model.State.{Image, Process, State, process}
-use Rattle.law_local.specs.kr_stops.Stopped.{IsEdited, IsThere, Stopped, computed, image_at, image_in, nothing_handed}
-use Rattle.law_local.specs.kr_stops.declared.handed.Handed.{Handed}
-use Rattle.law_local.specs.kr_turns.CallSteps.{entered, exited}
-use Rattle.law_local.specs.kr_turns.Turn.{Machine, calling}
-use Rattle.law_local.specs.kr_core.Between.{paused_at, unpaused}
-use Rattle.law_local.specs.kr_core.Moving.{Entry, Exit, Moved, begun_by, calls_execve}
-use Rattle.law_local.specs.kr_core.declared.paused.Begun.{Begun}
-use Rattle.law_local.specs.kr_core.declared.paused.Between.{Between}
-use Rattle.law_local.specs.kr_core.declared.paused.Between.TheVariants.{Entered}
-use Rattle.law_local.specs.kr_loose.LooseRun.{Loose, noted}
-use Rattle.law_local.specs.Local.{EntersAlike}
+use Rattle.kr_loose.specs.rv_mem.Memory.{Memory}
+use Rattle.kr_loose.specs.rv_mem.declared.regs.Regs.{Regs}
+use Rattle.kr_loose.specs.kr_core.kr_calls.Arguments.{number}
+use Rattle.kr_loose.specs.kr_model.Applied.{with_image}
+use Rattle.kr_loose.specs.kr_model.Lawful.{ArePids}
+use Rattle.kr_loose.specs.kr_model.State.{Image, Process, State, process}
+use Rattle.kr_loose.specs.kr_stops.Stopped.{IsEdited, IsThere, Stopped, computed, image_at, image_in, nothing_handed}
+use Rattle.kr_loose.specs.kr_stops.declared.handed.Handed.{Handed}
+use Rattle.kr_loose.specs.kr_turns.CallSteps.{entered, exited}
+use Rattle.kr_loose.specs.kr_turns.Turn.{Machine, calling}
+use Rattle.kr_loose.specs.kr_core.Between.{paused_at, unpaused}
+use Rattle.kr_loose.specs.kr_core.Moving.{Entry, Exit, Moved, begun_by, calls_execve}
+use Rattle.kr_loose.specs.kr_core.declared.paused.Begun.{Begun}
+use Rattle.kr_loose.specs.kr_core.declared.paused.Between.{Between}
+use Rattle.kr_loose.specs.kr_core.declared.paused.Between.TheVariants.{Entered}
+use Rattle.kr_loose.specs.LooseRun.{Loose, noted}
+use Rattle.kr_loose.specs.Local.{EntersAlike}
 use Rattle.law_beside.specs.Beside.{AreBeside, laid}
 use Rattle.law_beside.proofs.kr_core.PausedLemmas.{paused-other, paused-own, run-other, run-own}
 use Rattle.law_beside.proofs.kr_core.kr_stops.EditLemmas.{there}

@@ -2,15 +2,15 @@
 use Rattle.std.proofs.Common.{◌≡◌, inl, ℕ, Bool, true, false, cond, List, Option, Some, None, refl, sym, ap, subst, ◌∙◌}
 use Rattle.std.specs.Prelude.{◌==◌, IsSome}
 use Rattle.std.specs.Option.{option_map}
-use Rattle.law_local.specs.kr_view.View.{Row}
-use Rattle.law_local.specs.kr_model.Applied.{with_image}
-use Rattle.law_local.specs.kr_model.State.{Image, Process, State, at_pid, process}
-use Rattle.law_local.specs.kr_core.kr_steps.Answering.{going, waiting}
-use Rattle.law_local.specs.kr_stops.Stopped.{image_in}
-use Rattle.law_local.specs.kr_stops.Watching.{unwatched}
-use Rattle.law_local.specs.kr_turns.Turn.{calling, turn}
-use Rattle.law_local.specs.Local.{IsLocal}
-use Rattle.law_local.proofs.kr_loose.MarkTurnLemmas.{nobody-marks}
+use Rattle.kr_loose.specs.kr_view.View.{Row}
+use Rattle.kr_loose.specs.kr_model.Applied.{with_image}
+use Rattle.kr_loose.specs.kr_model.State.{Image, Process, State, at_pid, process}
+use Rattle.kr_loose.specs.kr_core.kr_steps.Answering.{going, waiting}
+use Rattle.kr_loose.specs.kr_stops.Stopped.{image_in}
+use Rattle.kr_loose.specs.kr_stops.Watching.{unwatched}
+use Rattle.kr_loose.specs.kr_turns.Turn.{calling, turn}
+use Rattle.kr_loose.specs.Local.{IsLocal}
+use Rattle.kr_loose.proofs.MarkTurnLemmas.{nobody-marks}
 use Rattle.law_beside.proofs.kr_core.kr_stops.EditLemmas.{edited-same, image-edited}
 use Rattle.law_beside.proofs.kr_core.law_lawful.ProcessChangeLemmas.{found as found-changed}
 use Rattle.law_beside.proofs.law_kept.MemoryApartLemmas.{others_live_on}

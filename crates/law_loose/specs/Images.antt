@@ -1,19 +1,19 @@
 -- A quiet loose run comes to what the run by turns comes to for which it stands.
 use Rattle.std.specs.Prelude.{◌≡◌, ◌≤◌, ℕ, Bool, false, List, [], ◌∷◌, ◌++◌, length, Some}
-use Rattle.law_local.specs.kr_view.View.{Row}
-use Rattle.law_local.specs.kr_model.State.{Image, Process, State}
-use Rattle.law_local.specs.kr_stops.Stopped.{Stopped}
-use Rattle.law_local.specs.kr_stops.Watching.{Watcher}
-use Rattle.law_local.specs.kr_turns.Run.{Put, Ran, Slot, run}
-use Rattle.law_local.specs.kr_turns.Steps.{picked_process}
-use Rattle.law_local.specs.kr_turns.Turn.{Machine}
-use Rattle.law_local.specs.kr_core.Between.{between_of}
-use Rattle.law_local.specs.kr_core.Moving.{Moved, moved}
-use Rattle.law_local.specs.kr_loose.LooseRun.{Loose, LooseRan, Step, after_bytes, loose_run, noted}
-use Rattle.law_local.specs.kr_loose.Marks.{MarksNothing}
-use Rattle.law_local.specs.kr_loose.Quiet.{IsQuiet, IsUndisturbed, met_by}
-use Rattle.law_local.specs.kr_loose.Slots.{slot_of_turn, slots_of_kind, slots_of_steps}
-use Rattle.law_local.specs.Local.{IsLocal, Locality}
+use Rattle.kr_loose.specs.kr_view.View.{Row}
+use Rattle.kr_loose.specs.kr_model.State.{Image, Process, State}
+use Rattle.kr_loose.specs.kr_stops.Stopped.{Stopped}
+use Rattle.kr_loose.specs.kr_stops.Watching.{Watcher}
+use Rattle.kr_loose.specs.kr_turns.Run.{Put, Ran, Slot, run}
+use Rattle.kr_loose.specs.kr_turns.Steps.{picked_process}
+use Rattle.kr_loose.specs.kr_turns.Turn.{Machine}
+use Rattle.kr_loose.specs.kr_core.Between.{between_of}
+use Rattle.kr_loose.specs.kr_core.Moving.{Moved, moved}
+use Rattle.kr_loose.specs.LooseRun.{Loose, LooseRan, Step, after_bytes, loose_run, noted}
+use Rattle.kr_loose.specs.Marks.{MarksNothing}
+use Rattle.kr_loose.specs.Quiet.{IsQuiet, IsUndisturbed, met_by}
+use Rattle.kr_loose.specs.Slots.{slot_of_turn, slots_of_kind, slots_of_steps}
+use Rattle.kr_loose.specs.Local.{IsLocal, Locality}
 use Rattle.law_beside.specs.Beside.{laid}
 use Rattle.law_loose.specs.Lagging.{Lags, stays_in}
 use Rattle.law_loose.specs.Staying.{StaysBeside, behind_turns, puts_of_turns}

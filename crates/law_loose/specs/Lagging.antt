@@ -3,21 +3,21 @@
 use Rattle.std.specs.Prelude.{◌≡◌, ℕ, suc, Bool, true, false, List, Option, Some, None, IsSome}
 use Rattle.std.specs.List.{All}
 use Rattle.std.specs.Option.{option_map_or}
-use Rattle.law_local.specs.kr_turns.rv_cpu.Run.{ran}
-use Rattle.law_local.specs.kr_turns.rv_cpu.declared.event.Event.TheVariants.{Call}
-use Rattle.law_local.specs.kr_model.State.{Image, State, process}
-use Rattle.law_local.specs.kr_stops.Stopped.{Stopped, image_at, image_in}
-use Rattle.law_local.specs.kr_stops.Watching.{Watcher}
-use Rattle.law_local.specs.kr_stops.declared.handed.Handed.{Handed}
-use Rattle.law_local.specs.kr_turns.Turn.{Machine, calling}
-use Rattle.law_local.specs.kr_core.Between.{between_of}
-use Rattle.law_local.specs.kr_core.Moving.{calls_execve}
-use Rattle.law_local.specs.kr_core.declared.paused.Begun.{Begun}
-use Rattle.law_local.specs.kr_core.declared.paused.Between.{Between}
-use Rattle.law_local.specs.kr_core.declared.paused.Between.TheVariants.{AtCall, Entered, Done}
-use Rattle.law_local.specs.kr_loose.LooseRun.{Loose, Step}
-use Rattle.law_local.specs.kr_loose.Quiet.{LeavesFor, others_since_entry}
-use Rattle.law_local.specs.Local.{Locality}
+use Rattle.kr_loose.specs.kr_turns.rv_cpu.Run.{ran}
+use Rattle.kr_loose.specs.kr_turns.rv_cpu.declared.event.Event.TheVariants.{Call}
+use Rattle.kr_loose.specs.kr_model.State.{Image, State, process}
+use Rattle.kr_loose.specs.kr_stops.Stopped.{Stopped, image_at, image_in}
+use Rattle.kr_loose.specs.kr_stops.Watching.{Watcher}
+use Rattle.kr_loose.specs.kr_stops.declared.handed.Handed.{Handed}
+use Rattle.kr_loose.specs.kr_turns.Turn.{Machine, calling}
+use Rattle.kr_loose.specs.kr_core.Between.{between_of}
+use Rattle.kr_loose.specs.kr_core.Moving.{calls_execve}
+use Rattle.kr_loose.specs.kr_core.declared.paused.Begun.{Begun}
+use Rattle.kr_loose.specs.kr_core.declared.paused.Between.{Between}
+use Rattle.kr_loose.specs.kr_core.declared.paused.Between.TheVariants.{AtCall, Entered, Done}
+use Rattle.kr_loose.specs.LooseRun.{Loose, Step}
+use Rattle.kr_loose.specs.Quiet.{LeavesFor, others_since_entry}
+use Rattle.kr_loose.specs.Local.{Locality}
 use Rattle.law_beside.specs.Beside.{laid}
 
 -- its next instruction is a call, and leaves registers and memory as they are

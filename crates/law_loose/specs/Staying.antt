@@ -1,22 +1,22 @@
 -- Turns of a machine on which no marks are kept, each with the bytes that it put taken; and what lasts for a process as others make some, on which its first
 -- stop may rest.
 use Rattle.std.specs.Prelude.{◌≡◌, ◌≢◌, ℕ, Bool, true, false, List, [], ◌∷◌, Some, IsSome}
-use Rattle.law_local.specs.kr_turns.rv_cpu.Run.{Ran, ran}
-use Rattle.law_local.specs.kr_turns.rv_cpu.declared.event.Event.TheVariants.{Call}
-use Rattle.law_local.specs.kr_view.View.{Row}
-use Rattle.law_local.specs.kr_model.Judged.{HasShape}
-use Rattle.law_local.specs.kr_model.Lawful.{ArePids}
-use Rattle.law_local.specs.kr_model.State.{Image, Process, State, process}
-use Rattle.law_local.specs.law_steady.Bytes.{HasBytes}
-use Rattle.law_local.specs.kr_stops.Stopped.{computed, image_in}
-use Rattle.law_local.specs.kr_stops.Watching.{Watcher}
-use Rattle.law_local.specs.kr_core.kr_steps.Answering.{waiting}
-use Rattle.law_local.specs.kr_turns.Breaking.{nothing_reached}
-use Rattle.law_local.specs.kr_turns.PlainCall.{plain_reach}
-use Rattle.law_local.specs.kr_turns.Run.{Put, Slot, after_put, cleared, put_by}
-use Rattle.law_local.specs.kr_turns.Steps.{picked_process}
-use Rattle.law_local.specs.kr_turns.Turn.{Machine, calling, turn}
-use Rattle.law_local.specs.kr_loose.Marks.{AreUnmarked}
+use Rattle.kr_loose.specs.kr_turns.rv_cpu.Run.{Ran, ran}
+use Rattle.kr_loose.specs.kr_turns.rv_cpu.declared.event.Event.TheVariants.{Call}
+use Rattle.kr_loose.specs.kr_view.View.{Row}
+use Rattle.kr_loose.specs.kr_model.Judged.{HasShape}
+use Rattle.kr_loose.specs.kr_model.Lawful.{ArePids}
+use Rattle.kr_loose.specs.kr_model.State.{Image, Process, State, process}
+use Rattle.kr_loose.specs.law_steady.Bytes.{HasBytes}
+use Rattle.kr_loose.specs.kr_stops.Stopped.{computed, image_in}
+use Rattle.kr_loose.specs.kr_stops.Watching.{Watcher}
+use Rattle.kr_loose.specs.kr_core.kr_steps.Answering.{waiting}
+use Rattle.kr_loose.specs.kr_turns.Breaking.{nothing_reached}
+use Rattle.kr_loose.specs.kr_turns.PlainCall.{plain_reach}
+use Rattle.kr_loose.specs.kr_turns.Run.{Put, Slot, after_put, cleared, put_by}
+use Rattle.kr_loose.specs.kr_turns.Steps.{picked_process}
+use Rattle.kr_loose.specs.kr_turns.Turn.{Machine, calling, turn}
+use Rattle.kr_loose.specs.Marks.{AreUnmarked}
 use Rattle.law_beside.specs.Beside.{laid}
 
 module _ {S : Type 0} (f : Watcher S) (table : List Row) where

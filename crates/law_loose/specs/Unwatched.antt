@@ -1,13 +1,13 @@
 -- The simplest watcher: where nobody watches, each loose run that is quiet comes to what its image comes to.
 use Rattle.std.specs.Prelude.{◌≡◌, ℕ, Bool, false, List}
-use Rattle.law_local.specs.kr_view.View.{Row}
-use Rattle.law_local.specs.kr_model.Lawful.{ArePids}
-use Rattle.law_local.specs.kr_model.State.{Image, State}
-use Rattle.law_local.specs.kr_stops.Stopped.{Stopped, image_in}
-use Rattle.law_local.specs.kr_stops.Watching.{unwatched}
-use Rattle.law_local.specs.kr_turns.Turn.{Machine}
-use Rattle.law_local.specs.kr_loose.Marks.{AreUnmarked}
-use Rattle.law_local.specs.Local.{Locality}
+use Rattle.kr_loose.specs.kr_view.View.{Row}
+use Rattle.kr_loose.specs.kr_model.Lawful.{ArePids}
+use Rattle.kr_loose.specs.kr_model.State.{Image, State}
+use Rattle.kr_loose.specs.kr_stops.Stopped.{Stopped, image_in}
+use Rattle.kr_loose.specs.kr_stops.Watching.{unwatched}
+use Rattle.kr_loose.specs.kr_turns.Turn.{Machine}
+use Rattle.kr_loose.specs.Marks.{AreUnmarked}
+use Rattle.kr_loose.specs.Local.{Locality}
 use Rattle.law_loose.specs.Images.{LooseRunsAreTheirImages, StepsLag}
 
 module _ {S : Type 0} where

@@ -2,15 +2,15 @@
 use Rattle.std.proofs.Common.{◌≡◌, ◌+◌, ◌≤◌, ℕ, zero, suc, List, [], ◌∷◌, ◌++◌, length, Option, Some, None, arith}
 use Rattle.std.specs.Option.{option_map_or}
 use Rattle.std.proofs.lemmas.List.{length-append}
-use Rattle.law_traced.specs.law_loose.kr_core.Between.{between_of}
-use Rattle.law_traced.specs.law_loose.kr_core.Moving.{Entry, Exit, Instructions, Moved, Plain, StepKind, moved}
-use Rattle.law_traced.specs.law_loose.kr_loose.LooseRun.{Loose, LooseRan, Step, after_bytes, loose_ended, loose_from, loose_put, step_of, stepped}
-use Rattle.law_traced.specs.law_loose.kr_loose.Slots.{slots_of_kind, slots_of_steps}
-use Rattle.law_traced.specs.law_loose.kr_model.State.{Image, Process}
-use Rattle.law_traced.specs.law_loose.kr_stops.Watching.{Watcher}
-use Rattle.law_traced.specs.law_loose.kr_turns.Run.{Ending, Slot, ending_of, put_by}
-use Rattle.law_traced.specs.law_loose.kr_turns.Steps.{picked_process}
-use Rattle.law_traced.specs.law_loose.kr_view.View.{Row}
+use Rattle.law_loose.specs.kr_core.Between.{between_of}
+use Rattle.law_loose.specs.kr_core.Moving.{Entry, Exit, Instructions, Moved, Plain, StepKind, moved}
+use Rattle.law_loose.specs.kr_loose.LooseRun.{Loose, LooseRan, Step, after_bytes, loose_ended, loose_from, loose_put, step_of, stepped}
+use Rattle.law_loose.specs.kr_loose.Slots.{slots_of_kind, slots_of_steps}
+use Rattle.law_loose.specs.kr_model.State.{Image, Process}
+use Rattle.law_loose.specs.kr_stops.Watching.{Watcher}
+use Rattle.law_loose.specs.kr_turns.Run.{Ending, Slot, ending_of, put_by}
+use Rattle.law_loose.specs.kr_turns.Steps.{picked_process}
+use Rattle.law_loose.specs.kr_view.View.{Row}
 
 kind-slots : (pick : ℕ) (kind : StepKind) → length (slots_of_kind pick kind) ≤ 1
 kind-slots pick (Instructions zero) = omega arith

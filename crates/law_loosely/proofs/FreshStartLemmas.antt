@@ -1,22 +1,22 @@
 -- How a run begins that a tracer watches without an identity.
 use Rattle.std.proofs.Common.{◌≡◌, ℕ, Bool, not, true, false, List, None, refl, subst}
 use Rattle.std.specs.Prelude.{Result, Ok, Err}
-use Rattle.law_turnwise.specs.law_machines.kr_inode.declared.user.User.{User}
-use Rattle.law_turnwise.specs.law_machines.kr_tree.Tree.{Tree}
-use Rattle.law_turnwise.specs.law_machines.kr_turns.Turn.{Machine}
-use Rattle.law_turnwise.specs.law_machines.kr_view.View.{plain}
-use Rattle.law_turnwise.specs.law_machines.pr_top.pr_base.MountText.{MountText}
-use Rattle.law_turnwise.specs.law_machines.pr_top.pr_base.declared.errno.Errno.{Errno}
-use Rattle.law_turnwise.specs.law_machines.pr_words.declared.launch.Launch.{Launch}
-use Rattle.law_turnwise.specs.law_machines.pr_start.TracedBeginning.{Tracing, begun_as, begun_met, fresh, start_meets, texts_before, traced_beginning, tracing_of}
-use Rattle.law_turnwise.specs.law_machines.pr_start.kr_first.Starting.{start_of}
-use Rattle.law_turnwise.specs.law_machines.pr_start.pt_first.GuestStart.{guest_start, noting, start_unmet}
-use Rattle.law_turnwise.specs.law_machines.pr_start.pt_first.declared.begun.Begun.{Begun}
-use Rattle.law_traced.specs.law_loose.kr_model.State.{Image, State}
-use Rattle.law_traced.specs.law_loose.kr_model.Walks.{and_then}
-use Rattle.law_fresh.specs.Fresh.{IsFresh}
-use Rattle.law_fresh.specs.law_beside.Opened.{StandOnNodes}
-use Rattle.law_fresh.proofs.FreshLemmas.{starts_are_fresh}
+use Rattle.law_machines.specs.kr_inode.declared.user.User.{User}
+use Rattle.law_machines.specs.kr_tree.Tree.{Tree}
+use Rattle.law_machines.specs.kr_turns.Turn.{Machine}
+use Rattle.law_machines.specs.kr_view.View.{plain}
+use Rattle.law_machines.specs.pr_top.pr_base.MountText.{MountText}
+use Rattle.law_machines.specs.pr_top.pr_base.declared.errno.Errno.{Errno}
+use Rattle.law_machines.specs.pr_words.declared.launch.Launch.{Launch}
+use Rattle.law_machines.specs.pr_start.TracedBeginning.{Tracing, begun_as, begun_met, fresh, start_meets, texts_before, traced_beginning, tracing_of}
+use Rattle.law_machines.specs.pr_start.kr_first.Starting.{start_of}
+use Rattle.law_machines.specs.pr_start.pt_first.GuestStart.{guest_start, noting, start_unmet}
+use Rattle.law_machines.specs.pr_start.pt_first.declared.begun.Begun.{Begun}
+use Rattle.law_loose.specs.kr_model.State.{Image, State}
+use Rattle.law_loose.specs.kr_model.Walks.{and_then}
+use Rattle.law_loosely.specs.Fresh.{IsFresh}
+use Rattle.law_loose.specs.law_beside.Opened.{StandOnNodes}
+use Rattle.law_loosely.proofs.FreshLemmas.{starts_are_fresh}
 
 -- nothing was put, no process stays at a call and no byte is marked; no identity is told; and where its walks looked up no name in the process directory,
 -- nothing of it is in use

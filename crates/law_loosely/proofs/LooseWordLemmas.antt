@@ -1,27 +1,27 @@
 -- What words with `--loose` begin is a loose run and a run over mounts that agree.
 use Rattle.std.proofs.Common.{◌≡◌, ◌≤◌, ◌^◌, ℕ, Bool, true, false, List, [], ◌∷◌, None, refl, sym, ap, subst, ◌∙◌, arith}
 use Rattle.std.specs.Prelude.{Result, Ok, Err}
-use Rattle.law_turnwise.specs.law_machines.kr_inode.declared.user.User.{User}
-use Rattle.law_turnwise.specs.law_machines.kr_mounts.Standing.{texts_of}
-use Rattle.law_turnwise.specs.law_machines.kr_tree.Tree.{Tree}
-use Rattle.law_turnwise.specs.law_machines.kr_turns.Turn.{Machine}
-use Rattle.law_turnwise.specs.law_machines.kr_view.View.{Row, plain}
-use Rattle.law_turnwise.specs.law_machines.pr_run.declared.plan.Plan.{Plan}
-use Rattle.law_turnwise.specs.law_machines.pr_sources.declared.reading.Asked.{Asked}
-use Rattle.law_turnwise.specs.law_machines.pr_start.Beginning.{beginning}
-use Rattle.law_turnwise.specs.law_machines.pr_start.Machines.{Nobody, Watch}
-use Rattle.law_turnwise.specs.law_machines.pr_start.TracedBeginning.{Tracing, asks, start_meets, traced_beginning}
-use Rattle.law_turnwise.specs.law_machines.pr_top.pr_base.declared.errno.Errno.{Errno}
-use Rattle.law_turnwise.specs.law_machines.pr_top.Opening.{Begun, Both, Loosely, Mounts, Started, Traced, begins, begun, begun_as, launch_of, loose_traced_run, loosened_plan, meets, meets_over, over, plan_of, started_as, started_on, stepwise_begun, watch_for}
-use Rattle.law_turnwise.specs.law_machines.pr_words.declared.launch.Launch.{Launch}
-use Rattle.law_turnwise.specs.law_machines.pr_words.declared.options.Slot.{Slot}
-use Rattle.law_turnwise.specs.law_machines.Agreeing.{CanBeTold}
-use Rattle.law_turnwise.specs.law_machines.Given.{CanBegin, settled_in}
-use Rattle.law_turnwise.specs.law_machines.Openings.{asked_on, over_mounts}
-use Rattle.law_turnwise.proofs.law_machines.GivenLemmas.{given-is-opening}
-use Rattle.law_turnwise.specs.law_midway.law_turns.pt_args.Laws.{ShelvesHoldTheirItems, TextsAreReadBack}
-use Rattle.law_traced.specs.law_entries.Traced.{TracersAreLocal}
-use Rattle.law_traced.specs.law_loose.kr_loose.Quiet.{IsQuiet}
+use Rattle.law_machines.specs.kr_inode.declared.user.User.{User}
+use Rattle.law_machines.specs.kr_mounts.Standing.{texts_of}
+use Rattle.law_machines.specs.kr_tree.Tree.{Tree}
+use Rattle.law_machines.specs.kr_turns.Turn.{Machine}
+use Rattle.law_machines.specs.kr_view.View.{Row, plain}
+use Rattle.law_machines.specs.pr_run.declared.plan.Plan.{Plan}
+use Rattle.law_machines.specs.pr_sources.declared.reading.Asked.{Asked}
+use Rattle.law_machines.specs.pr_start.Beginning.{beginning}
+use Rattle.law_machines.specs.pr_start.Machines.{Nobody, Watch}
+use Rattle.law_machines.specs.pr_start.TracedBeginning.{Tracing, asks, start_meets, traced_beginning}
+use Rattle.law_machines.specs.pr_top.pr_base.declared.errno.Errno.{Errno}
+use Rattle.law_machines.specs.pr_top.Opening.{Begun, Both, Loosely, Mounts, Started, Traced, begins, begun, begun_as, launch_of, loose_traced_run, loosened_plan, meets, meets_over, over, plan_of, started_as, started_on, stepwise_begun, watch_for}
+use Rattle.law_machines.specs.pr_words.declared.launch.Launch.{Launch}
+use Rattle.law_machines.specs.pr_words.declared.options.Slot.{Slot}
+use Rattle.law_machines.specs.Agreeing.{CanBeTold}
+use Rattle.law_machines.specs.Given.{CanBegin, settled_in}
+use Rattle.law_machines.specs.Openings.{asked_on, over_mounts}
+use Rattle.law_machines.proofs.GivenLemmas.{given-is-opening}
+use Rattle.law_machines.specs.law_turns.pt_args.Laws.{ShelvesHoldTheirItems, TextsAreReadBack}
+use Rattle.law_entries.specs.Traced.{TracersAreLocal}
+use Rattle.law_loose.specs.kr_loose.Quiet.{IsQuiet}
 use Rattle.law_loosely.specs.Loosely.{IsCalmBy, IsImageOf, LooseMachinesAgree, image_of, mounted_by}
 use Rattle.law_loosely.specs.LooseWords.{BeginLoosely, LooseWordsAgree}
 use Rattle.law_loosely.proofs.LooselyLemmas.{loose-machines-agree}

@@ -1,34 +1,34 @@
 -- A quiet loose run comes to what the watched run by its turns' slots comes to, and that to what the run over mounts comes to.
 use Rattle.std.proofs.Common.{◌≡◌, ◌+◌, ◌++◌, ◌≤◌, ℕ, Bool, List, [], ◌∷◌, length, None, refl, sym, ap, ◌∙◌, arith}
 use Rattle.std.specs.Prelude.{Ok}
-use Rattle.law_turnwise.specs.law_machines.kr_inode.declared.user.User.{User}
-use Rattle.law_turnwise.specs.law_machines.kr_mounts.Standing.{texts_of}
-use Rattle.law_turnwise.specs.law_machines.kr_tree.Tree.{Tree, nodes}
-use Rattle.law_turnwise.specs.law_machines.kr_turns.Run.{Put, Ran, Slot, run}
-use Rattle.law_turnwise.specs.law_machines.kr_turns.Turn.{Machine}
-use Rattle.law_turnwise.specs.law_machines.kr_view.View.{Row, plain}
-use Rattle.law_turnwise.specs.law_machines.pr_run.Report.{errs, outs}
-use Rattle.law_turnwise.specs.law_machines.pr_run.Slots.{slot_of}
-use Rattle.law_turnwise.specs.law_machines.pr_run.declared.plan.Plan.{Plan}
-use Rattle.law_turnwise.specs.law_machines.pr_start.Beginning.{beginning}
-use Rattle.law_turnwise.specs.law_machines.pr_start.Machines.{Nobody, Watch}
-use Rattle.law_turnwise.specs.law_machines.pr_start.TracedBeginning.{Tracing, asks, start_meets, traced_beginning, tracer}
-use Rattle.law_turnwise.specs.law_machines.pr_top.Opening.{loose_traced_run}
-use Rattle.law_turnwise.specs.law_machines.pr_words.declared.launch.Launch.{Launch}
-use Rattle.law_turnwise.specs.law_machines.Agreeing.{CanBeTold}
-use Rattle.law_turnwise.specs.law_midway.law_turns.pt_args.Laws.{ShelvesHoldTheirItems, TextsAreReadBack}
-use Rattle.law_turnwise.specs.Turnwise.{GoesAlong}
-use Rattle.law_turnwise.proofs.TurnwiseLemmas.{calm-runs-last}
-use Rattle.law_traced.specs.Staying.{IsGood, IsTame}
-use Rattle.law_traced.specs.law_entries.Lasting.{StaysFor}
-use Rattle.law_traced.specs.law_entries.Traced.{TellsNoIdentity, TracersAreLocal}
-use Rattle.law_traced.specs.law_loose.kr_loose.LooseRun.{LooseRan, loosened}
-use Rattle.law_traced.specs.law_loose.kr_loose.Quiet.{IsQuiet}
-use Rattle.law_traced.specs.law_loose.kr_loose.Slots.{slot_of_turn, slots_of_steps}
-use Rattle.law_traced.specs.law_loose.Images.{CanBegin, ComeToSame, all_err, all_out}
+use Rattle.law_machines.specs.kr_inode.declared.user.User.{User}
+use Rattle.law_machines.specs.kr_mounts.Standing.{texts_of}
+use Rattle.law_machines.specs.kr_tree.Tree.{Tree, nodes}
+use Rattle.law_machines.specs.kr_turns.Run.{Put, Ran, Slot, run}
+use Rattle.law_machines.specs.kr_turns.Turn.{Machine}
+use Rattle.law_machines.specs.kr_view.View.{Row, plain}
+use Rattle.law_machines.specs.pr_run.Report.{errs, outs}
+use Rattle.law_machines.specs.pr_run.Slots.{slot_of}
+use Rattle.law_machines.specs.pr_run.declared.plan.Plan.{Plan}
+use Rattle.law_machines.specs.pr_start.Beginning.{beginning}
+use Rattle.law_machines.specs.pr_start.Machines.{Nobody, Watch}
+use Rattle.law_machines.specs.pr_start.TracedBeginning.{Tracing, asks, start_meets, traced_beginning, tracer}
+use Rattle.law_machines.specs.pr_top.Opening.{loose_traced_run}
+use Rattle.law_machines.specs.pr_words.declared.launch.Launch.{Launch}
+use Rattle.law_machines.specs.Agreeing.{CanBeTold}
+use Rattle.law_machines.specs.law_turns.pt_args.Laws.{ShelvesHoldTheirItems, TextsAreReadBack}
+use Rattle.law_loosely.specs.Turnwise.{GoesAlong}
+use Rattle.law_loosely.proofs.TurnwiseLemmas.{calm-runs-last}
+use Rattle.law_loosely.specs.Staying.{IsGood, IsTame}
+use Rattle.law_entries.specs.Lasting.{StaysFor}
+use Rattle.law_entries.specs.Traced.{TellsNoIdentity, TracersAreLocal}
+use Rattle.law_loose.specs.kr_loose.LooseRun.{LooseRan, loosened}
+use Rattle.law_loose.specs.kr_loose.Quiet.{IsQuiet}
+use Rattle.law_loose.specs.kr_loose.Slots.{slot_of_turn, slots_of_steps}
+use Rattle.law_loose.specs.Images.{CanBegin, ComeToSame, all_err, all_out}
 use Rattle.law_loosely.proofs.SceneLemmas.{traced-runs-are-their-images}
-use Rattle.law_traced.proofs.law_entries.MarkLemmas.{tracers-mark-nothing}
-use Rattle.law_traced.proofs.law_loose.law_local.kr_loose.MarkTurnLemmas.{runs-mark-nothing}
+use Rattle.law_entries.proofs.MarkLemmas.{tracers-mark-nothing}
+use Rattle.law_loose.proofs.kr_loose.MarkTurnLemmas.{runs-mark-nothing}
 use Rattle.law_loosely.specs.Loosely.{IsCalmBy, IsImageOf, LooseMachinesAgree, image_of, mounted_by}
 use Rattle.law_loosely.proofs.FewLemmas.{loosely-few}
 use Rattle.law_loosely.proofs.FreshStartLemmas.{BeginsFresh, begins-fresh}

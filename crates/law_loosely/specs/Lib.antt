@@ -1,6 +1,10 @@
-pub use Rattle.law_turnwise.specs.law_machines as law_machines
-pub use Rattle.law_turnwise.specs as law_turnwise
-pub use Rattle.law_traced.specs as law_traced
-pub use Rattle.law_fresh.specs as law_fresh
+pub use Rattle.law_machines.specs as law_machines
+pub use Rattle.law_loose.specs as law_loose
+pub use Rattle.law_entries.specs as law_entries
+pub mod Fresh
+pub mod Staying
+pub mod Midway
+pub mod Schedules
+pub mod Turnwise
 pub mod Loosely
 pub mod LooseWords

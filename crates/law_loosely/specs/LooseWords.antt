@@ -1,16 +1,16 @@
 -- Words that ask for single steps: what they begin with a tracer, and what they begin over mounts.
 use Rattle.std.specs.Prelude.{◌≡◌, ℕ, Bool, false, List, None, Ok}
-use Rattle.law_turnwise.specs.law_machines.kr_turns.Turn.{Machine}
-use Rattle.law_turnwise.specs.law_machines.kr_view.View.{Row, plain}
-use Rattle.law_turnwise.specs.law_machines.pr_run.declared.plan.Plan.{Plan}
-use Rattle.law_turnwise.specs.law_machines.pr_sources.declared.reading.Asked.{Asked}
-use Rattle.law_turnwise.specs.law_machines.pr_start.Machines.{Watch}
-use Rattle.law_turnwise.specs.law_machines.pr_start.TracedBeginning.{Tracing, asks}
-use Rattle.law_turnwise.specs.law_machines.pr_top.Opening.{Loosely, Mounts, begins, loose_traced_run}
-use Rattle.law_turnwise.specs.law_machines.pr_words.declared.options.Options.{Options}
-use Rattle.law_turnwise.specs.law_machines.Given.{AreGiven}
-use Rattle.law_turnwise.specs.law_machines.Openings.{over_mounts}
-use Rattle.law_traced.specs.law_loose.kr_loose.Quiet.{IsQuiet}
+use Rattle.law_machines.specs.kr_turns.Turn.{Machine}
+use Rattle.law_machines.specs.kr_view.View.{Row, plain}
+use Rattle.law_machines.specs.pr_run.declared.plan.Plan.{Plan}
+use Rattle.law_machines.specs.pr_sources.declared.reading.Asked.{Asked}
+use Rattle.law_machines.specs.pr_start.Machines.{Watch}
+use Rattle.law_machines.specs.pr_start.TracedBeginning.{Tracing, asks}
+use Rattle.law_machines.specs.pr_top.Opening.{Loosely, Mounts, begins, loose_traced_run}
+use Rattle.law_machines.specs.pr_words.declared.options.Options.{Options}
+use Rattle.law_machines.specs.Given.{AreGiven}
+use Rattle.law_machines.specs.Openings.{over_mounts}
+use Rattle.law_loose.specs.kr_loose.Quiet.{IsQuiet}
 use Rattle.law_loosely.specs.Loosely.{IsCalmBy, IsImageOf, image_of, mounted_by}
 
 -- a run by single steps that begins with a tracer, and what the same asks for over mounts

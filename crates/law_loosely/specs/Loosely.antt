@@ -1,22 +1,22 @@
 -- A loose run that a tracer watches, and the run over mounts whose slots are those of its turns.
 use Rattle.std.specs.Prelude.{◌≡◌, ℕ, List, length, None, Ok}
-use Rattle.law_turnwise.specs.law_machines.pr_words.declared.launch.Launch.{Launch}
-use Rattle.law_turnwise.specs.law_machines.kr_inode.declared.user.User.{User}
-use Rattle.law_turnwise.specs.law_machines.kr_mounts.Standing.{texts_of}
-use Rattle.law_turnwise.specs.law_machines.kr_tree.Tree.{Tree, nodes}
-use Rattle.law_turnwise.specs.law_machines.kr_turns.Run.{Ran, Slot, run}
-use Rattle.law_turnwise.specs.law_machines.kr_turns.Turn.{Machine}
-use Rattle.law_turnwise.specs.law_machines.kr_view.View.{Row, plain}
-use Rattle.law_turnwise.specs.law_machines.pr_run.Report.{errs, outs}
-use Rattle.law_turnwise.specs.law_machines.pr_run.declared.plan.Plan.{Plan}
-use Rattle.law_turnwise.specs.law_machines.pr_start.Beginning.{beginning}
-use Rattle.law_turnwise.specs.law_machines.pr_start.Machines.{Nobody, Watch, watch}
-use Rattle.law_turnwise.specs.law_machines.pr_start.TracedBeginning.{Tracing, asks, start_meets, traced_beginning}
-use Rattle.law_turnwise.specs.law_machines.pr_top.Opening.{loose_traced_run}
-use Rattle.law_turnwise.specs.law_machines.Agreeing.{CanBeTold}
-use Rattle.law_traced.specs.law_loose.kr_loose.LooseRun.{LooseRan}
-use Rattle.law_traced.specs.law_loose.kr_loose.Quiet.{IsQuiet}
-use Rattle.law_traced.specs.law_loose.kr_loose.Slots.{slot_of_turn, slots_of_steps}
+use Rattle.law_machines.specs.pr_words.declared.launch.Launch.{Launch}
+use Rattle.law_machines.specs.kr_inode.declared.user.User.{User}
+use Rattle.law_machines.specs.kr_mounts.Standing.{texts_of}
+use Rattle.law_machines.specs.kr_tree.Tree.{Tree, nodes}
+use Rattle.law_machines.specs.kr_turns.Run.{Ran, Slot, run}
+use Rattle.law_machines.specs.kr_turns.Turn.{Machine}
+use Rattle.law_machines.specs.kr_view.View.{Row, plain}
+use Rattle.law_machines.specs.pr_run.Report.{errs, outs}
+use Rattle.law_machines.specs.pr_run.declared.plan.Plan.{Plan}
+use Rattle.law_machines.specs.pr_start.Beginning.{beginning}
+use Rattle.law_machines.specs.pr_start.Machines.{Nobody, Watch, watch}
+use Rattle.law_machines.specs.pr_start.TracedBeginning.{Tracing, asks, start_meets, traced_beginning}
+use Rattle.law_machines.specs.pr_top.Opening.{loose_traced_run}
+use Rattle.law_machines.specs.Agreeing.{CanBeTold}
+use Rattle.law_loose.specs.kr_loose.LooseRun.{LooseRan}
+use Rattle.law_loose.specs.kr_loose.Quiet.{IsQuiet}
+use Rattle.law_loose.specs.kr_loose.Slots.{slot_of_turn, slots_of_steps}
 
 -- the slots of the turns for which it stands
 abbrev pub image_of : {S : Type 0} → LooseRan S → List Slot

@@ -1,3 +1,4 @@
+pub use Rattle.law_starts.proofs.law_turns as law_turns
 pub use Rattle.pr_top.proofs.pr_words as pr_words
 pub use Rattle.pr_top.proofs.pr_sources as pr_sources
 pub mod PieceLemmas

@@ -12,8 +12,8 @@ use Rattle.law_starts.specs.pt_faker.Stopping.{after_request, memory_at, with_me
 use Rattle.law_starts.specs.pt_ident.Identity.{Answers, Effect, Identity, TakesGroups, TellsGroups, TellsNumbers, number_bytes, on_memory}
 use Rattle.law_starts.specs.pt_ident.IdentityTable.{IdentityTable, shown_owners}
 use Rattle.law_starts.specs.pt_ident.Showing.{auxiliary_values, field, is_of_tree, owner_in, shown_at, shown_host, shown_with, with_owner_in}
-use Rattle.law_starts.specs.pt_ident.pt_owner.declared.change.Shown.{Shown}
-use Rattle.law_starts.specs.pt_ident.pt_owner.Owners.{Remembered, shown_of}
+use Rattle.law_starts.specs.pt_ident.declared.change.Shown.{Shown}
+use Rattle.law_starts.specs.pt_ident.Owners.{Remembered, shown_of}
 use Rattle.law_starts.specs.pt_faker.Carrying.{on_its_memory}
 use Rattle.law_starts.specs.pt_faker.Faking.{behind_list, forgiven, has_answered_zero, if_done, most_words, next_word, no_call, no_longer_called, number_register, put_values, show_identity, show_owner}
 use Rattle.law_starts.specs.law_kept.Bytes.{HasBytes}

@@ -4,6 +4,7 @@ pub use Rattle.pr_top.specs.kr_tree as kr_tree
 pub use Rattle.pr_top.specs.kr_view as kr_view
 pub use Rattle.law_paths.specs.kr_mounts as kr_mounts
 pub use Rattle.law_starts.specs.kr_turns as kr_turns
+pub use Rattle.law_starts.specs.law_turns as law_turns
 pub use Rattle.pr_top.specs.pr_words as pr_words
 pub use Rattle.pr_top.specs.pr_sources as pr_sources
 pub use Rattle.law_starts.specs.pr_start as pr_start

@@ -14,7 +14,7 @@ use Rattle.kr_turns.specs.rv_mem.Memory.{Memory}
 use Rattle.kr_turns.specs.rv_mem.declared.regs.Regs.{Regs}
 use Rattle.pt_faker.specs.pt_ident.Identity.{Answered, Effect, Identity, after_exec, effect, on_memory, refusal}
 use Rattle.pt_faker.specs.pt_ident.IdentityTable.{identity_at}
-use Rattle.pt_faker.specs.pt_ident.pt_owner.declared.change.Change.{Change}
+use Rattle.pt_faker.specs.pt_ident.declared.change.Change.{Change}
 use Rattle.pt_faker.specs.Carrying.{on_its_memory}
 use Rattle.pt_faker.specs.Faking.{Faking, after_decoding, after_due, after_effect, answer_register, begin_program, entered, exited, forgiven, keeping, no_call, no_longer_called, number_register, remember, remembered, show_identity, show_owner, stack_register, told, with_due, without_due, word_of}
 use Rattle.pt_faker.specs.Watches as watches

@@ -45,9 +45,9 @@ use Rattle.law_turns.proofs.kr_turns.PlainLemmas.{no-exec-requested, no-exec-rul
 use Rattle.law_edits.specs.pt_ident.Identity.{refusal}
 use Rattle.law_edits.specs.pt_faker.Faking.{Faking, due_of, has_answered_zero, if_root, is_root, show_owner, word_of}
 use Rattle.law_edits.specs.pt_faker.Stopping.{Stopped, memory_at}
-use Rattle.law_edits.specs.pt_ident.pt_owner.Owners.{modes}
-use Rattle.law_edits.specs.pt_ident.pt_owner.declared.change.Change.{Change}
-use Rattle.law_edits.specs.pt_ident.pt_owner.declared.change.Change.TheVariants.{Mode, Own}
+use Rattle.law_edits.specs.pt_ident.Owners.{modes}
+use Rattle.law_edits.specs.pt_ident.declared.change.Change.{Change}
+use Rattle.law_edits.specs.pt_ident.declared.change.Change.TheVariants.{Mode, Own}
 use Rattle.law_edits.specs.pt_faker.declared.due.Due.TheVariants.{ForgivesRoot, Remembers}
 use Rattle.law_turns.specs.Calls.{decoded_by, decoded_in}
 use Rattle.law_turns.specs.Lasting.{CanBeCalled}

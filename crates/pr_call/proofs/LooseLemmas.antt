@@ -22,8 +22,8 @@ use Rattle.law_loosely.specs.law_machines.pr_top.Opening.{Begun, Loosely, Mounts
 use Rattle.law_loosely.specs.law_machines.pr_words.declared.options.Options.{Options}
 use Rattle.law_loosely.proofs.law_machines.ReportLemmas.{listings_tell_nodes}
 use Rattle.law_loosely.proofs.law_machines.SourceLemmas.{read-has-options}
-use Rattle.law_loosely.specs.law_traced.law_loose.kr_loose.LooseRun.{LooseRan}
-use Rattle.law_loosely.specs.law_traced.law_loose.kr_loose.Quiet.{IsQuiet}
+use Rattle.law_loosely.specs.law_loose.kr_loose.LooseRun.{LooseRan}
+use Rattle.law_loosely.specs.law_loose.kr_loose.Quiet.{IsQuiet}
 use Rattle.law_loosely.specs.Loosely.{IsImageOf, image_of, mounted_by}
 use Rattle.law_loosely.specs.LooseWords.{LooseWordsAgree}
 use Rattle.pr_call.specs.LooseHeadline.{AsksUntold, OpensQuietly, TellsImage, TellsLoosely}

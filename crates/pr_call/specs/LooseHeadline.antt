@@ -19,8 +19,8 @@ use Rattle.law_loosely.specs.law_machines.pr_start.Machines.{Watch}
 use Rattle.law_loosely.specs.law_machines.pr_start.TracedBeginning.{Tracing, asks}
 use Rattle.law_loosely.specs.law_machines.pr_top.Opening.{loose_traced_run}
 use Rattle.law_loosely.specs.law_machines.pr_words.declared.options.Options.{Options}
-use Rattle.law_loosely.specs.law_traced.law_loose.kr_loose.LooseRun.{LooseRan}
-use Rattle.law_loosely.specs.law_traced.law_loose.kr_loose.Quiet.{IsQuiet}
+use Rattle.law_loosely.specs.law_loose.kr_loose.LooseRun.{LooseRan}
+use Rattle.law_loosely.specs.law_loose.kr_loose.Quiet.{IsQuiet}
 use Rattle.law_loosely.specs.Loosely.{IsCalmBy, image_of, mounted_by}
 use Rattle.law_loosely.specs.LooseWords.{BeginLoosely}
 use Rattle.pr_call.specs.Promise.{EndsEarly, Passed, TellsRun}

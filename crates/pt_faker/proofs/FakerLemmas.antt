@@ -9,7 +9,7 @@ use Rattle.pt_ident.specs.rv_mem.Actions.{carried_out}
 use Rattle.pt_ident.specs.rv_mem.declared.regs.Regs.{Regs}
 use Rattle.pt_ident.specs.Identity.{Answered, Effect, Identity, after_exec, effect, on_memory}
 use Rattle.pt_ident.specs.IdentityTable.{IdentityTable, after_end, identity_at, with_identity, with_kept}
-use Rattle.pt_ident.specs.pt_owner.declared.change.Change.{Change}
+use Rattle.pt_ident.specs.declared.change.Change.{Change}
 use Rattle.pt_faker.specs.Carrying.{AnswersAny, on_its_memory}
 use Rattle.pt_faker.specs.Faking.{Faking, after_due, after_effect, answer_register, begin_program, due_of, dues_with, forgiven, has_answered_zero, if_done, is_root, no_longer_called, number_register, remember, remembered, show_identity, stack_register, told}
 use Rattle.pt_faker.specs.declared.due.Due.{Due}

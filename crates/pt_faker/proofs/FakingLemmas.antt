@@ -10,7 +10,7 @@ use Rattle.kr_stops.specs.Editing.{after_request, decoded_at, register_at}
 use Rattle.kr_stops.specs.Stopped.{Stopped}
 use Rattle.pt_ident.specs.Identity.{Effect, Identity, effect, starting}
 use Rattle.pt_ident.specs.IdentityTable.{IdentityTable, identity_at, with_identity, with_noted}
-use Rattle.pt_ident.specs.pt_owner.declared.change.Change.{Change}
+use Rattle.pt_ident.specs.declared.change.Change.{Change}
 use Rattle.pt_faker.specs.Faking.{Faking, after_decoding, after_due, after_effect, answer_register, begin_program, due_of, forgiven, is_root, keeping, remembered, remembered_of, with_due, without_due}
 use Rattle.pt_faker.specs.FakingLaws.{ComeAndGo, EntriesForget, ExitsFollowEntries, OthersStay}
 use Rattle.pt_faker.specs.declared.due.Due.{Due}

@@ -19,9 +19,9 @@ use Rattle.kr_stops.specs.Watching.{Watcher}
 use Rattle.pt_ident.specs.Identity.{Effect, Identity, after_exec, effect, on_memory, refusal}
 use Rattle.pt_ident.specs.IdentityTable.{IdentityTable, after_birth, after_end, identity_at, shown_owners, starting_table, starts_as_root, with_identity, with_noted}
 use Rattle.pt_ident.specs.Showing.{auxiliary_values, shown_stat}
-use Rattle.pt_ident.specs.pt_owner.Owners.{modes}
-use Rattle.pt_ident.specs.pt_owner.declared.change.Change.{Change}
-use Rattle.pt_ident.specs.pt_owner.declared.change.Change.TheVariants.{Own, Mode}
+use Rattle.pt_ident.specs.Owners.{modes}
+use Rattle.pt_ident.specs.declared.change.Change.{Change}
+use Rattle.pt_ident.specs.declared.change.Change.TheVariants.{Own, Mode}
 use Rattle.pt_faker.specs.Carrying.{on_its_memory}
 use Rattle.pt_faker.specs.declared.due.Due.{Due}
 use Rattle.pt_faker.specs.declared.due.Due.TheVariants.{Tells, Remembers, ForgivesRoot, ShowsOwner, BeginsProgram}

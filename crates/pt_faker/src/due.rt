@@ -1,6 +1,6 @@
 //! What is due at the second stop of a call.
 
-use pt_ident::below::pt_owner::Change;
+use pt_ident::Change;
 
 /// What is still to be done for a process, once its call was carried out.
 #[derive(Clone, Copy)]

@@ -3,8 +3,8 @@ ghost use Rattle.std.specs.Prelude.{◌≡◌, ◌%◌, OnOk};
 ghost use Rattle.pt_faker.specs.Stopping.{OnlyEdits};
 ghost use Rattle.pt_faker.specs.Faking.{due_of};
 ghost use Rattle.pt_faker.specs.declared.due.Due.TheVariants.{BeginsProgram, Remembers, ShowsOwner};
-ghost use Rattle.pt_ident.specs.pt_owner.Owners.{modes};
-ghost use Rattle.pt_ident.specs.pt_owner.declared.change.Change.TheVariants.{Mode, Own};
+ghost use Rattle.pt_ident.specs.Owners.{modes};
+ghost use Rattle.pt_ident.specs.declared.change.Change.TheVariants.{Mode, Own};
 
 use crate::answering::answer_call;
 use crate::auxiliary::show_identity;
@@ -19,7 +19,7 @@ use kr_stops::{Stops, Tracee};
 use pt_ident::Identities;
 use pt_ident::below::kr_calls::{CallFault, Request};
 use pt_ident::below::kr_inode::User;
-use pt_ident::below::pt_owner::Change;
+use pt_ident::Change;
 use std::alloc::Global;
 use std::marker::Model;
 

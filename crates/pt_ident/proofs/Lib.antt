@@ -3,3 +3,4 @@ mod ByteLemmas
 mod NumberLemmas
 mod StatLemmas
 mod TableLemmas
+mod OwnerLemmas

@@ -7,8 +7,8 @@ use Rattle.kr_inode.specs.pr_base.Fields.{little_endian}
 use Rattle.kr_inode.specs.declared.user.User.{User}
 use Rattle.kr_calls.specs.declared.stat.Stat.{Stat}
 use Rattle.kr_calls.specs.Stats.{stat_layout}
-use Rattle.pt_owner.specs.declared.change.Shown.{Shown}
-use Rattle.pt_owner.specs.Owners.{Remembered, shown_of}
+use Rattle.pt_ident.specs.declared.change.Shown.{Shown}
+use Rattle.pt_ident.specs.Owners.{Remembered, shown_of}
 use Rattle.pt_ident.specs.Laws.{HasFields, StatShowsTheOwner, host_owner, over_owner, with_owner}
 use Rattle.pt_ident.specs.Showing.{is_of_tree, owner_in, shown, shown_at, shown_host, shown_over, shown_with, with_owner_in}
 

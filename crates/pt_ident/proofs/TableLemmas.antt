@@ -3,7 +3,7 @@ use Rattle.std.specs.FinMap as map
 use Rattle.std.proofs.Common.{◌≡◌, ◌∙◌, ℕ, Some, None, ap}
 use Rattle.std.specs.Option.{option_map_or}
 use Rattle.std.specs.Ordering.{nat_cmp}
-use Rattle.pt_owner.specs.Owners.{Remembered}
+use Rattle.pt_ident.specs.Owners.{Remembered}
 use Rattle.pt_ident.specs.Identity.{Identity, starting}
 use Rattle.pt_ident.specs.IdentityTable.{IdentityTable, identity_at, with_kept}
 

@@ -4,8 +4,8 @@ use Rattle.std.specs.Prelude.{ℕ, ◌==◌, Bool, List, Option, Some, None, if�
 use Rattle.std.specs.Option.{option_map_or}
 use Rattle.std.specs.Ordering.{nat_cmp}
 use Rattle.std.specs.Coded.{Coded, code_by, coded×, coded_ℕ, coded_list}
-use Rattle.pt_owner.specs.declared.change.Change.{Change}
-use Rattle.pt_owner.specs.Owners.{Remembered, noted, nothing, remembered_code}
+use Rattle.pt_ident.specs.declared.change.Change.{Change}
+use Rattle.pt_ident.specs.Owners.{Remembered, noted, nothing, remembered_code}
 use Rattle.pt_ident.specs.Identity.{Identity, Numbers, child_of, starting}
 
 pub record IdentityTable : Type 0 where

@@ -8,8 +8,8 @@ use Rattle.kr_calls.specs.declared.stat.Stat.{Stat}
 use Rattle.kr_calls.specs.Stats.{stat_layout}
 use Rattle.pt_ident.specs.Identity.{Answered, Effect, Identity, Numbers, effect, is_privileged, number_bytes, numbers_in, on_memory}
 use Rattle.pt_ident.specs.Showing.{is_of_tree, shown, shown_stat}
-use Rattle.pt_owner.specs.declared.change.Shown.{Shown}
-use Rattle.pt_owner.specs.Owners.{Remembered, shown_of}
+use Rattle.pt_ident.specs.declared.change.Shown.{Shown}
+use Rattle.pt_ident.specs.Owners.{Remembered, shown_of}
 
 -- what a call answers, and the identity behind it; None of a request that isn't one of these calls
 abbrev pub outcome_of : Memory → Identity → Option Effect → Option Answered

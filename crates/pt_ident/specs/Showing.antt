@@ -5,8 +5,8 @@ use Rattle.std.specs.Int.{to_le_bytes, w32}
 use Rattle.std.proofs.Math.Seq.{sets}
 use Rattle.kr_inode.specs.pr_base.Fields.{little_endian}
 use Rattle.kr_inode.specs.declared.user.User.{User}
-use Rattle.pt_owner.specs.declared.change.Shown.{Shown}
-use Rattle.pt_owner.specs.Owners.{Remembered, modes, shown_of}
+use Rattle.pt_ident.specs.declared.change.Shown.{Shown}
+use Rattle.pt_ident.specs.Owners.{Remembered, modes, shown_of}
 use Rattle.pt_ident.specs.Identity.{Identity}
 
 -- ---- the host user

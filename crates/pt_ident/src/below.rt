@@ -2,4 +2,3 @@
 pub use kr_calls;
 pub use kr_calls::below::rv_mem;
 pub use kr_inode;
-pub use pt_owner;

@@ -9,7 +9,8 @@ use crate::ids::{EFFECTIVE, Ids, REAL};
 use kr_inode::User;
 use kr_inode::below::pr_base::limits::MODES;
 use kr_inode::below::pr_base::{field_u32, field_u64};
-use pt_owner::{Owners, Shown};
+use crate::change::Shown;
+use crate::owners::Owners;
 
 /// The places of `st_dev`, `st_ino`, `st_mode`, `st_uid` and `st_gid` in the structure `stat`.
 const DEVICE_PLACE: usize = 0;

@@ -4,7 +4,8 @@ ghost use Rattle.std.specs.Option.{option_copied};
 
 use crate::ids::Ids;
 use kr_inode::below::pr_base::NoMemory;
-use pt_owner::{Change, Owners};
+use crate::change::Change;
+use crate::owners::Owners;
 use std::alloc::Global;
 use std::collections::BTreeMap;
 use std::marker::Model;

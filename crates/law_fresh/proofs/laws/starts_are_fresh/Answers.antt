@@ -1,5 +1,0 @@
-use Rattle.law_fresh.proofs.FreshLemmas.{starts_are_fresh}
-use Rattle.law_fresh.proofs.laws.starts_are_fresh.Goals as goal
-
-pub returns : goal.returns
-returns c = starts_are_fresh

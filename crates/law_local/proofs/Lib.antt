@@ -1,1 +1,0 @@
-pub use Rattle.kr_loose.proofs as kr_loose

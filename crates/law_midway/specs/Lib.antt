@@ -1,2 +1,0 @@
-pub use Rattle.law_turns.specs as law_turns
-pub mod Midway

@@ -1,3 +1,0 @@
-//! What those above name of the crates below.
-
-pub use law_turns::below::{shelves_hold_their_items, texts_are_read_back};

@@ -1,5 +1,0 @@
-use Rattle.law_traced.proofs.StayLemmas.{tracers_stay_beside}
-use Rattle.law_traced.proofs.laws.tracers_stay_beside.Goals as goal
-
-pub returns : goal.returns
-returns c = tracers_stay_beside

@@ -1,3 +1,0 @@
-//! What those above name of the crates below.
-
-pub use law_entries;

@@ -1,5 +1,0 @@
-use Rattle.law_turnwise.proofs.ScheduleLemmas.{schedules-are-slots}
-use Rattle.law_turnwise.proofs.laws.schedules_are_slots.Goals as goal
-
-pub returns : goal.returns
-returns c = schedules-are-slots

@@ -1,4 +1,0 @@
-//! What those above name of the crates below.
-
-pub use law_machines;
-pub use law_midway::below::{shelves_hold_their_items, texts_are_read_back};

@@ -1,2 +1,0 @@
-pub use Rattle.pr_base.proofs as pr_base
-pub mod OwnerLemmas

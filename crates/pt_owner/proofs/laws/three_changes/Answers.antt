@@ -1,5 +1,0 @@
-use Rattle.pt_owner.proofs.OwnerLemmas.{three_changes}
-use Rattle.pt_owner.proofs.laws.three_changes.Goals as goal
-
-pub returns : goal.returns
-returns c = three_changes

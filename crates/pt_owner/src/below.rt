@@ -1,2 +1,0 @@
-//! The crates below, by which those above name them.
-pub use pr_base;
