@@ -23,8 +23,10 @@
 //! no path, and leaves all but that its caller stays at it where it comes to wait (`WaitingCalls.antt`, `waiting_calls_have_no_path`,
 //! `waits_leave_all`).
 //!
-//! Only tested, or not shown: `core_tests` shows the stops of several processes that come apart. That a quiet loose run comes to what the run comes
-//! to for which it stands isn't shown.
+//! And it is said what makes a watcher local (`Local.antt`): that it goes by what it keeps of a process and what is that process's own. Whoever defines a
+//! watcher proves it of that. On it law_loose rests, which shows that a quiet loose run comes to what the run comes to for which it stands.
+//!
+//! Only tested, or not shown: `core_tests` shows the stops of several processes that come apart.
 #![tactic(auto)]
 
 pub mod below;
