@@ -181,6 +181,17 @@ fn is_call(number: u64, request: &Request) -> bool {
         96 => matches!(request, Request::SetTidAddress),
         134 => matches!(request, Request::RtSigaction),
         135 => matches!(request, Request::RtSigprocmask),
+        166 => matches!(request, Request::Umask { m: 1 }),
+        172 => matches!(request, Request::Getpid),
+        173 => matches!(request, Request::Getppid),
+        178 => matches!(request, Request::Gettid),
+        _ => is_of_identity(number, request),
+    }
+}
+
+/// The same of calls on users and groups.
+fn is_of_identity(number: u64, request: &Request) -> bool {
+    match number {
         143 => matches!(request, Request::Setregid { rgid: 1, egid: 2 }),
         144 => matches!(request, Request::Setgid { gid: 1 }),
         145 => matches!(request, Request::Setreuid { ruid: 1, euid: 2 }),
@@ -219,14 +230,10 @@ fn is_call(number: u64, request: &Request) -> bool {
         ),
         158 => matches!(request, Request::Getgroups { size: 1, list: 2 }),
         159 => matches!(request, Request::Setgroups { size: 1, list: 2 }),
-        166 => matches!(request, Request::Umask { m: 1 }),
-        172 => matches!(request, Request::Getpid),
-        173 => matches!(request, Request::Getppid),
         174 => matches!(request, Request::Getuid),
         175 => matches!(request, Request::Geteuid),
         176 => matches!(request, Request::Getgid),
         177 => matches!(request, Request::Getegid),
-        178 => matches!(request, Request::Gettid),
         _ => false,
     }
 }
