@@ -7,13 +7,15 @@ use Rattle.law_loosely.specs.law_machines.kr_tree.Tree.{nodes}
 use Rattle.law_loosely.specs.law_machines.kr_turns.Run.{Ran}
 use Rattle.law_loosely.specs.law_machines.kr_turns.Turn.{Machine}
 use Rattle.law_loosely.specs.law_machines.kr_view.View.{Row, plain}
-use Rattle.law_loosely.specs.law_machines.pr_run.Puts.{Got}
+use Rattle.law_loosely.specs.law_machines.pr_run.Puts.{Got, GotPrefix}
 use Rattle.law_loosely.specs.law_machines.pr_run.Report.{answer_of, errs, outs}
 use Rattle.law_loosely.specs.law_machines.pr_run.Stepping.{loose_line}
 use Rattle.law_loosely.specs.law_machines.pr_run.declared.plan.Plan.{Plan}
 use Rattle.law_loosely.specs.law_machines.pr_sources.Asking.{asked}
 use Rattle.law_loosely.specs.law_machines.pr_sources.Reading.{read_asked}
 use Rattle.law_loosely.specs.law_machines.pr_sources.declared.answer.Answer.{Answer}
+use Rattle.law_loosely.specs.law_machines.pr_sources.declared.answer.Answer.TheVariants.{WriteFault}
+use Rattle.law_loosely.specs.law_machines.pr_sources.declared.answer.Which.TheVariants.{Left}
 use Rattle.law_loosely.specs.law_machines.pr_sources.declared.reading.Asked.{Asked}
 use Rattle.law_loosely.specs.law_machines.pr_start.Machines.{Watch}
 use Rattle.law_loosely.specs.law_machines.pr_start.TracedBeginning.{Tracing, asks}
@@ -48,13 +50,16 @@ pub record OpensQuietly (words : List (List ℕ)) (tree elf input : List ℕ) (p
   pub begins : BeginsQuietly asked_for plan n table m
 
 -- what is told of a loose run is the answer of this run over mounts, or want of memory or a fault ends it earlier. Where it tells a whole run, all bytes of
--- this one's turns were put, in their order, and its listing, and the nodes of both trees are the same
+-- this one's turns were put, in their order, and its listing, and the nodes of both trees are the same; and however it ends, what was put begins these bytes
 pub record TellsImage (loose : LooseRan Tracing) (ran : Ran Watch) (user : User) (p : Passed) (answer : Answer) : Type 0 where
   pub answered : (answer ≡ answer_of ran.ending ran.machine.tally.status) ⊎ EndsEarly answer
   pub out : TellsRun answer → Got p.out (outs ran.puts)
   pub err : TellsRun answer → Got p.err (errs ran.puts ++ loose_line true)
   pub listing : TellsRun answer → Got p.left (canonical ran.machine.state.tree user)
   pub trees : TellsRun answer → nodes loose.left.machine.state.tree ≡ nodes ran.machine.state.tree
+  pub out_begins : GotPrefix p.out (outs ran.puts)
+  pub err_begins : GotPrefix p.err (errs ran.puts ++ loose_line true)
+  pub left_begins : answer ≡ WriteFault Left → GotPrefix p.left (canonical ran.machine.state.tree user)
 
 -- of what begins so
 abbrev pub TellsLoosely : Plan → Machine Tracing → List Row → Machine Watch → Passed → Answer → Type 0

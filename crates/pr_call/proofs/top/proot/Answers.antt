@@ -1,4 +1,4 @@
-use Rattle.std.proofs.Common.{inr, map, refl}
+use Rattle.std.proofs.Common.{inl, inr, map, refl}
 use Rattle.std.specs.String.{string_bytes}
 use Rattle.law_loosely.specs.law_machines.pr_io.Drawn.{gave}
 use Rattle.law_loosely.specs.law_machines.pr_sources.declared.answer.Which.TheVariants.{Tree as TreeSource, Elf, Input, Out, Err as ErrSink, Left}
@@ -36,7 +36,8 @@ returns-in-Ok-clause-loose g c =
     let words = map string_bytes c.args.words.now in
     loose-headline c.loose_words_agree.ensures words (gave p.sources.tree) (gave p.sources.elf) (gave p.sources.input) (words-bytes c.args.words.now) ⊥
     (read-too words (gave p.sources.tree) (gave p.sources.elf) (gave p.sources.input) c.in-Ok.ensures.read)
-    p c.report.result (λ none. absurd none) (run-told c.in-Ok.opened p c.report.result c.report.ensures (opened_by words p.sources) c.in-Ok.ensures.opens)
+    p c.report.result (inr (record { after = comes-after c.in-Ok.opened p c.report.result c.report.ensures; sinks = no-source-named c.in-Ok.opened p c.report.result c.report.ensures }))
+    (λ none. absurd none) (run-told c.in-Ok.opened p c.report.result c.report.ensures (opened_by words p.sources) c.in-Ok.ensures.opens)
 
 pub returns-in-Ok-clause-complete : goal.returns-in-Ok-clause-complete
 returns-in-Ok-clause-complete g c =
@@ -119,7 +120,7 @@ returns-in-Err-clause-loose g c =
     let a = c.in-Err.answer in
     let none : NothingIsPut p = record { out_stays = refl; err_stays = refl; left_stays = refl } in
     loose-headline c.loose_words_agree.ensures words (gave p.sources.tree) (gave p.sources.elf) (gave p.sources.input) (words-bytes c.args.words.now) (IsEarly a) c.in-Err.ensures.read
-    p a (λ early. (early-ends a early, not-told a c.in-Err.ensures.kinds)) (opening-told a c.in-Err.ensures.kinds p none (opened_by words p.sources) c.in-Err.ensures.opens)
+    p a (inl none) (λ early. (early-ends a early, not-told a c.in-Err.ensures.kinds, none)) (opening-told a c.in-Err.ensures.kinds p none (opened_by words p.sources) c.in-Err.ensures.opens)
 
 pub returns-in-Err-clause-refusal : goal.returns-in-Err-clause-refusal
 returns-in-Err-clause-refusal g c =
