@@ -37,7 +37,8 @@
 //! `loose`: where words with `--loose` open a loose run that is quiet, and the run over mounts of the same words and bytes by the slots of its turns
 //! (`image_of`, `mounted_by`) breaks no calm rule, its start included (`OpensQuietly`), what is answered is the answer of that run, or want of memory or a
 //! fault ends it earlier; and after Ended, Deadlock and Spent all bytes of its turns were put, in their order, then the line that the run was quiet, and its
-//! listing, and both trees have the same nodes (`TellsImage`). How the bytes are parted among steps isn't compared.
+//! listing, and both trees have the same nodes (`TellsImage`). However it ends, what the sinks got begins these bytes. How the bytes are parted among steps
+//! isn't compared.
 //!
 //! Where sources tell what they have left, all this holds of the opening of those bytes (`promises_hold_of_told`).
 //!
