@@ -1,4 +1,5 @@
 //! A call of the top call, and what came of it.
+ghost use Rattle.std.specs.Prelude.{◌<◌, ◌^◌, length};
 
 use guests::below::{Bytes, NoMemory};
 use pr_call::below::{MemSink, MemSource};
@@ -93,29 +94,67 @@ fn sink(alloc: Global, which: Which, moving: Moving) -> Result<MemSink, Fail> {
     }
 }
 
+/// What is read.
+#[derive(Drop)]
+struct Sources {
+    tree: MemSource,
+    elf: MemSource,
+    input: MemSource,
+}
+
+impl Sources {
+    fn new(alloc: Global, asked: &Asked) -> Result<Sources, Fail> {
+        let moving = asked.moving;
+        let tree = source(alloc, Which::Tree, asked.tree, moving)?;
+        let elf = source(alloc, Which::Elf, asked.elf, moving)?;
+        let input = source(alloc, Which::Input, asked.input, moving)?;
+        Ok(Sources { tree, elf, input })
+    }
+}
+
+/// What is written.
+#[derive(Drop)]
+struct Sinks {
+    out: MemSink,
+    err: MemSink,
+    left: MemSink,
+}
+
+impl Sinks {
+    fn new(alloc: Global, moving: Moving) -> Result<Sinks, Fail> {
+        let out = sink(alloc, Which::Out, moving)?;
+        let err = sink(alloc, Which::Err, moving)?;
+        let left = sink(alloc, Which::Left, moving)?;
+        Ok(Sinks { out, err, left })
+    }
+}
+
+/// The call alone, in a function that lets nothing go: its clauses beside what is let go are dear to prove.
+fn answer(alloc: Global, words: &[String], sources: &mut Sources, sinks: &mut Sinks) -> Answer
+    requires { length words.now < 2 ^ 32 }
+{
+    proot(
+        alloc,
+        words,
+        &mut sources.tree,
+        &mut sources.elf,
+        &mut sources.input,
+        &mut sinks.out,
+        &mut sinks.err,
+        &mut sinks.left,
+    )
+}
+
 /// Makes the call.
 pub fn call(alloc: Global, asked: Asked) -> Result<Told, Fail> {
     let words = words_of(alloc, asked.words)?;
     if words.len() > 1000 {
         return Err(Fail::from("too many words"));
     }
-    let moving = asked.moving;
-    let mut tree = source(alloc, Which::Tree, asked.tree, moving)?;
-    let mut elf = source(alloc, Which::Elf, asked.elf, moving)?;
-    let mut input = source(alloc, Which::Input, asked.input, moving)?;
-    let mut out = sink(alloc, Which::Out, moving)?;
-    let mut err = sink(alloc, Which::Err, moving)?;
-    let mut left = sink(alloc, Which::Left, moving)?;
-    let answer = proot(
-        alloc,
-        words.as_slice(),
-        &mut tree,
-        &mut elf,
-        &mut input,
-        &mut out,
-        &mut err,
-        &mut left,
-    );
+    let mut sources = Sources::new(alloc, &asked)?;
+    let mut sinks = Sinks::new(alloc, asked.moving)?;
+    let answer = answer(alloc, words.as_slice(), &mut sources, &mut sinks);
+    let Sinks { out, err, left } = sinks;
     Ok(Told {
         answer,
         out,
