@@ -1,5 +1,5 @@
--- The same words and bytes over mounts: what they open there, where that is calm. Without `--native` the public call answers and puts what is
--- told of it.
+-- The same words and bytes over mounts: what they open there, where that is calm. Without `--native`, `--case` and `--loose` the public call answers and puts
+-- what is told of it.
 use Rattle.std.specs.Prelude.{◌≡◌, ℕ, false, List, [], None, Result, Ok, Err}
 use Rattle.law_loosely.specs.law_machines.pr_io.Drawn.{gave}
 use Rattle.law_loosely.specs.law_machines.kr_view.View.{Row}

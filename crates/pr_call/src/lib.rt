@@ -30,7 +30,7 @@
 //!
 //! With `--calm` the line is that of the first calm rule that the run broke, since it is part of the report.
 //!
-//! `headline`: where words ask for no generated case and not for mounts, and what the same words and bytes open over mounts (`over_mounts`) is
+//! `headline`: where words ask for no generated case, not for mounts and not for single steps, and what the same words and bytes open over mounts (`over_mounts`) is
 //! calm (`OpensCalmly`), that is told, as what is opened is: the report of a run over mounts that breaks no calm rule; or the refusal, of bindings
 //! that don't settle or of a start whose walks break none.
 //!

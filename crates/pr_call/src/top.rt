@@ -40,13 +40,14 @@ pub fn proot<T: Source, E: Source, I: Source, O: Sink, R: Sink, L: Sink>(
 ) -> Answer
     requires { length words.now < 2 ^ 32 }
 
-    // The headline: without `--native` and `--loose`, what is answered and put is what the same words and bytes open over mounts, where that is calm: the report
-    // of a run that breaks no calm rule, or a refusal, of bindings that don't settle or of a start whose walks break none.
+    // The headline: without `--native`, `--case` and `--loose`, what is answered and put is what the same words and bytes open over mounts, where that is calm:
+    // the report of a run that breaks no calm rule, or a refusal, of bindings that don't settle or of a start whose walks break none.
     ensures headline { Headline (map string_bytes words.now) (passed T.Source tree.old tree.new E.Source elf.old elf.new I.Source input.old input.new
         O.Sink out.old out.new R.Sink err.old err.new L.Sink left.old left.new) result }
 
     // The claim on `--loose`: where the loose run that is opened is quiet, and the run over mounts of the same words by the slots of its turns breaks no calm
-    // rule, what is answered and put is that of this run, but for how the bytes are parted, and the nodes of both trees are the same.
+    // rule, what is answered and put is that of this run, but for how the bytes are parted, and the nodes of both trees are the same; want of memory or a
+    // fault may end it earlier, after a prefix of these bytes.
     ensures loose { LooseHeadline (map string_bytes words.now) (passed T.Source tree.old tree.new E.Source elf.old elf.new I.Source input.old input.new
         O.Sink out.old out.new R.Sink err.old err.new L.Sink left.old left.new) result }
 
