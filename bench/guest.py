@@ -37,9 +37,30 @@ class Growths:
             print(f"  above it: {name}, {times:.2f}")
 
 
-def product():
+def product(usual=PRODUCT):
     """The program that the first word names, or else the one that `rt run` leaves."""
-    return Path(sys.argv[1] if len(sys.argv) > 1 else PRODUCT).resolve()
+    program = Path(sys.argv[1] if len(sys.argv) > 1 else usual).resolve()
+    if not program.is_file() or not os.access(program, os.X_OK):
+        sys.exit(f"bench: there is no program {program}; name one, or build it by `rt run` in its crate")
+    return program
+
+
+def number_or(usual, place=2):
+    """The number that the word at a place is, or else the usual one."""
+    word = sys.argv[place] if len(sys.argv) > place else str(usual)
+    if not (word.isascii() and word.isdigit() and int(word) > 0):
+        sys.exit(f"bench: {word} is no number from 1 on")
+    return int(word)
+
+
+def make(words, **options):
+    """Runs a program that makes something, which has to succeed."""
+    try:
+        made = subprocess.run(words, **options)
+    except FileNotFoundError:
+        sys.exit(f"bench: there is no {words[0]}")
+    if made.returncode:
+        sys.exit(f"bench: {words[0]} ends with {made.returncode}")
 
 
 def timed(words, given=os.devnull, told=os.devnull, errors=None):
@@ -60,7 +81,7 @@ def best(rounds, name):
 
 def example(name, folder):
     """A program of the examples, built for the machine."""
-    subprocess.run([PROGRAMS / "build", folder, name], check=True)
+    make([PROGRAMS / "build", folder, name])
     return folder / name
 
 
@@ -68,10 +89,8 @@ def code_of(source, folder, symbols=()):
     """The code of a source, in which each symbol of a text NAME=NUMBER has its number."""
     built, linked = folder / "loop.o", folder / "loop.bin"
     defined = [f"-defsym={symbol}" for symbol in symbols]
-    assemble = ["llvm-mc", "-triple=riscv64", "-mattr=+m", "-filetype=obj", *defined, "-o", built, source]
-    subprocess.run(assemble, check=True)
-    link = ["ld.lld", "--oformat", "binary", f"-Ttext={BASE + HEADERS:#x}", "-e", "0", "-o", linked, built]
-    subprocess.run(link, check=True)
+    make(["llvm-mc", "-triple=riscv64", "-mattr=+m", "-filetype=obj", *defined, "-o", built, source])
+    make(["ld.lld", "--oformat", "binary", f"-Ttext={BASE + HEADERS:#x}", "-e", "0", "-o", linked, built])
     return linked.read_bytes()
 
 

@@ -39,9 +39,6 @@ class Host:
         self.user = user
         self.patterns = patterns
 
-    def close(self):
-        os.close(self.folder)
-
     def look(self, text):
         """The status of what stands at a text, a link itself; None where nothing does."""
         if self.patterns.leave_out(text):

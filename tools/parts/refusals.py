@@ -35,8 +35,8 @@ TREE = {
 }
 WHOLE = {
     "deadlock": "the run ended since each process that is left waits for another: look for a pipe's end that stays open",
-    "turns spent": "the run was ended since its number of turns was made, and each call is one: give more by --turns, up to 10000000 (without "
-    "it 1000000)",
+    "turns spent": "the run was ended since its number of turns was made, and each call ends one: give more by --turns, up to 10000000 (without "
+    "it 1000000). With --loose these are steps, and a call takes four or more",
     "no memory": "memory ran out: take things out of the folder by -x, or give more memory",
     "too long: Tree": "the listing of the folder has more than 67,108,864 bytes: leave large files out by -x",
     "too long: Elf": "the ELF file has more than 16,777,216 bytes",
@@ -85,10 +85,11 @@ def of_word(place, why, words):
         "Unknown": lambda: unknown(word),
         "NoValue": lambda: no_value(word),
         "BadNumber": lambda: f"{words_of.shown(value or '')} is no number of those that {name} takes ({RANGES.get(name, 'in range')})",
-        "BadSchedule": lambda: "the value isn't PICK*FUEL, parted by commas, with a PICK of 0 to 255 and a FUEL of 1 to 100000; quote the *",
+        "BadSchedule": lambda: "the value isn't PICK*FUEL, parted by commas, up to 1,024 of them, with a PICK of 0 to 255 and a FUEL of 1 to 100000; "
+        "quote the *",
         "BadBind": lambda: "the path before or behind the : is empty; write HOST:GUEST, or HOST alone",
         "BadEnv": lambda: "there is no = in it, or no name before the =; write --env=NAME=VALUE",
-        "BadId": lambda: "the value isn't UID:GID with two numbers up to 4294967295",
+        "BadId": lambda: "the value isn't UID:GID with two numbers up to 4294967294",
         "Twice": lambda: f"this option was given before{first_place(place, words)}, and may be given once",
         "CalmAlone": lambda: "it needs --native, since only a run over mounts is judged",
         "CaseAlone": lambda: "beside --case nothing but --turns and --schedule may stand, and a case reads no folder: run proot itself for it",

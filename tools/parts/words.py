@@ -10,7 +10,7 @@ OPTIONS = [
     (("-0", "--root-id"), None, "the program believes to be root"),
     (("-i", "--change-id"), "UID:GID", "the program believes to be this user and group"),
     (("--env",), "NAME=VALUE", "a variable of the environment, which has no others; may be given many times"),
-    (("--turns",), "N", "at most N turns are made, up to 10000000; without it 1000000. Each call is a turn"),
+    (("--turns",), "N", "at most N turns are made, up to 10000000; without it 1000000. Each call ends a turn"),
     (("--schedule",), "'PICK*FUEL,..'", "who runs when, and for how many instructions"),
     (("--loose",), "'PICK*FUEL,..'", "by single steps, which come apart as beneath a real tracer; tells whether the run was quiet"),
     (("--native",), None, "over mounts, without a tracer"),
@@ -57,7 +57,6 @@ class Words:
     directory: str = "/"
     has_directory: bool = False
     variables: dict = field(default_factory=dict)
-    flags: set = field(default_factory=set)
     case: bool = False
     # The option and the value at the place of each word that begins an option, counted from 1.
     options: dict = field(default_factory=dict)
@@ -75,8 +74,6 @@ class Words:
             self.variables[key] = text
         elif name == "--case":
             self.case = True
-        elif value is None:
-            self.flags.add(name)
 
 
 def binding_of(word):
