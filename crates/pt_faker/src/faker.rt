@@ -16,10 +16,9 @@ use crate::remembering::remember;
 use elf_load::below::pr_base::NoMemory;
 use elf_load::below::pr_base::limits::MODES;
 use kr_stops::{Stops, Tracee};
-use pt_ident::Identities;
 use pt_ident::below::kr_calls::{CallFault, Request};
 use pt_ident::below::kr_inode::User;
-use pt_ident::Change;
+use pt_ident::{Change, Identities};
 use std::alloc::Global;
 use std::marker::Model;
 

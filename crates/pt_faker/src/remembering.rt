@@ -3,8 +3,7 @@ ghost use Rattle.std.specs.Prelude.{◌≡◌, OnOk};
 ghost use Rattle.pt_faker.specs.Faking.{remembered};
 
 use elf_load::below::pr_base::NoMemory;
-use pt_ident::Identities;
-use pt_ident::Change;
+use pt_ident::{Change, Identities};
 
 /// Remembers what a call said of its target, if it has one and 0 is told. After want of memory the identities may only be dropped.
 pub fn remember(

@@ -5,12 +5,12 @@ ghost use Rattle.std.specs.Int.{to_le_bytes, w32};
 ghost use Rattle.std.proofs.Math.Seq.{sets};
 ghost use Rattle.pt_ident.specs.Showing.{auxiliary_values, field, is_of_tree, shown_at, shown_over, shown_stat};
 
+use crate::change::Shown;
 use crate::ids::{EFFECTIVE, Ids, REAL};
+use crate::owners::Owners;
 use kr_inode::User;
 use kr_inode::below::pr_base::limits::MODES;
 use kr_inode::below::pr_base::{field_u32, field_u64};
-use crate::change::Shown;
-use crate::owners::Owners;
 
 /// The places of `st_dev`, `st_ino`, `st_mode`, `st_uid` and `st_gid` in the structure `stat`.
 const DEVICE_PLACE: usize = 0;

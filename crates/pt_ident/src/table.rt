@@ -2,10 +2,10 @@
 ghost use Rattle.std.specs.Prelude.{◌≡◌, IfOk, OnOk};
 ghost use Rattle.std.specs.Option.{option_copied};
 
-use crate::ids::Ids;
-use kr_inode::below::pr_base::NoMemory;
 use crate::change::Change;
+use crate::ids::Ids;
 use crate::owners::Owners;
+use kr_inode::below::pr_base::NoMemory;
 use std::alloc::Global;
 use std::collections::BTreeMap;
 use std::marker::Model;
