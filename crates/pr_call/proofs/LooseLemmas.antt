@@ -77,15 +77,17 @@ module _ (plan : Plan) (met : Bool) (n : Machine Tracing) (ran : Ran Watch) (p :
   BothBegin = GotPrefix p.out (outs loose.puts) × GotPrefix p.err (errs loose.puts ++ quiet-line)
 
   stops-in-out : StopsInOut loose.puts p.out p.err → BothBegin
-  stops-in-out s =
-      ( got-prefix p.out.before p.out.now (outs (take s.made loose.puts) ++ take s.out_got.0 s.put.out) (outs loose.puts) s.out_got.1 (past-begin out_part s.made loose.puts s.put s.out_got.0 s.next)
-      , got-prefix p.err.before p.err.now (errs (take s.made loose.puts)) (errs loose.puts ++ quiet-line) s.err_got (begins-more (errs (take s.made loose.puts)) (errs loose.puts) quiet-line (some-begin err_part s.made loose.puts)) )
+  stops-in-out s = (
+    got-prefix p.out.before p.out.now (outs (take s.made loose.puts) ++ take s.out_got.0 s.put.out) (outs loose.puts) s.out_got.1 (past-begin out_part s.made loose.puts s.put s.out_got.0 s.next),
+    got-prefix p.err.before p.err.now (errs (take s.made loose.puts)) (errs loose.puts ++ quiet-line) s.err_got (begins-more (errs (take s.made loose.puts)) (errs loose.puts) quiet-line (some-begin err_part s.made loose.puts)),
+  )
 
   stops-in-err : StopsInErr loose.puts p.out p.err → BothBegin
   stops-in-err s =
-      let got : List ℕ = errs (take s.made loose.puts) ++ take s.err_got.0 s.put.err in
-      ( got-prefix p.out.before p.out.now (outs (take (suc s.made) loose.puts)) (outs loose.puts) s.out_got (some-begin out_part (suc s.made) loose.puts)
-      , got-prefix p.err.before p.err.now got (errs loose.puts ++ quiet-line) s.err_got.1 (begins-more got (errs loose.puts) quiet-line (past-begin err_part s.made loose.puts s.put s.err_got.0 s.next)) )
+      let got : List ℕ = errs (take s.made loose.puts) ++ take s.err_got.0 s.put.err in (
+        got-prefix p.out.before p.out.now (outs (take (suc s.made) loose.puts)) (outs loose.puts) s.out_got (some-begin out_part (suc s.made) loose.puts),
+        got-prefix p.err.before p.err.now got (errs loose.puts ++ quiet-line) s.err_got.1 (begins-more got (errs loose.puts) quiet-line (past-begin err_part s.made loose.puts s.put s.err_got.0 s.next)),
+      )
 
   stops-between : StopsBetween loose.puts p.out p.err → BothBegin
   stops-between s = (got-prefix p.out.before p.out.now (outs (take s.made loose.puts)) (outs loose.puts) s.out_got (some-begin out_part s.made loose.puts), by s.err_got)
@@ -99,16 +101,18 @@ module _ (plan : Plan) (met : Bool) (n : Machine Tracing) (ran : Ran Watch) (p :
 
   all-put : told.quiet ≡ true → PutsTurns (loose_report plan loose told.quiet) p.out p.err → BothBegin
   all-put is puts =
-      let all : List ℕ = errs loose.puts ++ quiet-line in
-      ( got-prefix p.out.before p.out.now (outs loose.puts) (outs loose.puts) puts.out_got (begins-itself (outs loose.puts))
-      , got-prefix p.err.before p.err.now all all (subst (λ q. Got p.err (errs loose.puts ++ loose_line q)) is puts.err_got) (begins-itself all) )
+      let all : List ℕ = errs loose.puts ++ quiet-line in (
+        got-prefix p.out.before p.out.now (outs loose.puts) (outs loose.puts) puts.out_got (begins-itself (outs loose.puts)),
+        got-prefix p.err.before p.err.now all all (subst (λ q. Got p.err (errs loose.puts ++ loose_line q)) is puts.err_got) (begins-itself all),
+      )
 
   stops-in-line : told.quiet ≡ true → StopsInCalm (loose_report plan loose told.quiet) p.out p.err → BothBegin
   stops-in-line is s =
-      let n : ℕ = s.err_got.0 in
-      ( got-prefix p.out.before p.out.now (outs loose.puts) (outs loose.puts) s.out_got (begins-itself (outs loose.puts))
-      , got-prefix p.err.before p.err.now (errs loose.puts ++ take n quiet-line) (errs loose.puts ++ quiet-line) (subst (λ q. Got p.err (errs loose.puts ++ take n (loose_line q))) is s.err_got.1)
-        (begins-behind (errs loose.puts) (take n quiet-line) quiet-line (begins-taken n quiet-line)) )
+      let n : ℕ = s.err_got.0 in (
+        got-prefix p.out.before p.out.now (outs loose.puts) (outs loose.puts) s.out_got (begins-itself (outs loose.puts)),
+        got-prefix p.err.before p.err.now (errs loose.puts ++ take n quiet-line) (errs loose.puts ++ quiet-line) (subst (λ q. Got p.err (errs loose.puts ++ take n (loose_line q))) is s.err_got.1)
+            (begins-behind (errs loose.puts) (take n quiet-line) quiet-line (begins-taken n quiet-line)),
+      )
 
   -- by what was answered, and whether the line was due
   begin-by : IsOfRun a → (b : Answer) → a ≡ b → EndsInSteps loose.puts p b ⊎ (told.quiet ≡ true) → BothBegin
