@@ -126,8 +126,8 @@ module _ (plan : Plan) (met : Bool) (n : Machine Tracing) (ran : Ran Watch) (p :
   begin-by from (NoStart errno) e due = absurd (from.after (subst ComesBeforeRun (sym e) tt))
   begin-by from (ReadFault which) e due = absurd (from.after (subst ComesBeforeRun (sym e) tt))
   begin-by from (WriteFault TreeSource) e due = absurd (from.sinks.0 e)
-  begin-by from (WriteFault Elf) e due = absurd (from.sinks.1.0 e)
-  begin-by from (WriteFault Input) e due = absurd (from.sinks.1.1 e)
+  begin-by from (WriteFault Elf) e due = absurd (from.sinks.1 e)
+  begin-by from (WriteFault Input) e due = absurd (from.sinks.2 e)
   begin-by from (WriteFault Out) e due = stops-in-out (told.reported.out_stops e)
   begin-by from (WriteFault ErrSink) e (inl stops) = stops-in-err stops
   begin-by from (WriteFault ErrSink) e (inr is) = by (told.reported.err_stops e)
@@ -173,7 +173,7 @@ module _ (plan : Plan) (met : Bool) (n : Machine Tracing) (ran : Ran Watch) (p :
 
 -- what ends before it is told whole tells nothing of it, and puts nothing
 pub early-image : (loose : LooseRan Tracing) (ran : Ran Watch) (user : User) (p : Passed) (a : Answer) → EndsEarly a → (TellsRun a → ⊥) → NothingIsPut p → TellsImage loose ran user p a
-early-image loose ran user p a early untold none = record {
+early-image steps ran user p a early untold none = record {
   answered = inr early;
   out = λ tells. absurd (untold tells);
   err = λ tells. absurd (untold tells);
@@ -209,7 +209,7 @@ module _ (agree : LooseWordsAgree) (words : List (List ℕ)) (tree elf input : L
   loose-headline E was p a how early tells plan n table m is = by (read-asked-or words tree elf input E was is.loosely.options is.asked_for is.loosely.asks is.loosely.own is.loosely.gives)
     where
       by : IsRead is.asked_for ⊎ E → TellsLoosely plan n table m p a
-      by (inr e) = early-image (loose_traced_run plan n) (mounted_by (image_of (loose_traced_run plan n)) table m) plan.user p a (early e).0 (early e).1.0 (early e).1.1
+      by (inr e) = early-image (loose_traced_run plan n) (mounted_by (image_of (loose_traced_run plan n)) table m) plan.user p a (early e).0 (early e).1 (early e).2
       by (inl read) =
           let opens : opening words tree elf input ≡ Ok (record { plan = plan; started = Loosely is.begins.met n }) = opens-as is.asked_for is.loosely ∙ is.begins.begin.steps in
           image-told plan is.begins.met n (mounted_by (image_of (loose_traced_run plan n)) table m) p a (subst (λ (o : Result Begun Answer). TellsOpening o p a) opens tells) is.begins.quiet

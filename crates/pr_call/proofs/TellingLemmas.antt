@@ -130,6 +130,7 @@ module _ (law : SourcesThatTellAgree) (words : List (List ℕ)) (p : Passed) (a 
       by : Same opens.loosely.options ⊎ CutShort → TellsLoosely plan n table m p a
       by (inr cut) =
           early-image (loose_traced_run plan n) (mounted_by (image_of (loose_traced_run plan n)) table m) plan.user p a (early-ends a cut.early) (not-told a (early-opening a cut.early))
+          cut.nothing
       by (inl same) =
           let given : Ok opens.asked_for ≡ read_asked opens.loosely.options (gave s.tree) (gave s.elf) (gave s.input) = subst (λ told. Agrees told (read_asked opens.loosely.options (gave s.tree) (gave s.elf) (gave s.input))) opens.loosely.tells same in
           is.loose plan n table m (record {
